@@ -1,0 +1,3 @@
+mod Store
+mod Same
+pub mod Semitones

@@ -1,0 +1,29 @@
+-- Notes: a letter and a modifier, and the numbers that the listing gives them.
+use mathlib.Core.List.{[], _∷_}
+use Prim.Native.Nat.{ℕ}
+use lib.IntN.{ℤ, pos, negsuc}
+use lib.ListN.{getD}
+use Rattle.chord.specs.declared.note.NoteLiteral.the-variants.{C, D, E, F, G, A, B}
+use Rattle.chord.specs.declared.note.NoteLiteral.{NoteLiteral}
+use Rattle.chord.specs.declared.note.RootModifier.the-variants.{Natural, Sharp, Flat}
+use Rattle.chord.specs.declared.note.RootModifier.{RootModifier}
+
+-- "root letter (C 0 to B 6)"
+abbrev pub letterNumber : NoteLiteral → ℕ
+letterNumber C = 0
+letterNumber D = 1
+letterNumber E = 2
+letterNumber F = 3
+letterNumber G = 4
+letterNumber A = 5
+letterNumber B = 6
+
+-- the letter of a number; numbers from 7 on have none and give C
+abbrev pub letterOf : ℕ → NoteLiteral
+letterOf n = getD (C ∷ D ∷ E ∷ F ∷ G ∷ A ∷ B ∷ []) n C
+
+-- "alteration (-1, 0, 1)"
+abbrev pub alterationOf : RootModifier → ℤ
+alterationOf Natural = pos 0
+alterationOf Sharp = pos 1
+alterationOf Flat = negsuc 0

@@ -1,0 +1,110 @@
+// Notes: letter and modifier.
+ghost use mathlib.Core.Logic.{_↔_};
+ghost use mathlib.Core.Path.{_≡_};
+ghost use mathlib.Core.Bool.{true};
+ghost use Rattle.chord.specs.Note.{letterNumber, letterOf, alterationOf};
+
+pub enum NoteLiteral {
+    C,
+    D,
+    E,
+    F,
+    G,
+    A,
+    B,
+}
+
+pub enum RootModifier {
+    Natural,
+    Sharp,
+    Flat,
+}
+
+pub struct Note {
+    pub literal: NoteLiteral,
+    pub modifier: RootModifier,
+}
+
+// The root or the slash bass of a chord, where there is one.
+pub enum OptionalNote {
+    None,
+    Some(Note),
+}
+
+impl NoteLiteral {
+    // C 0 to B 6.
+    pub fn number(self) -> u8
+        ensures { λ r. ⌜ r ≡ letterNumber self ⌝ }
+    {
+        match self {
+            NoteLiteral::C => 0,
+            NoteLiteral::D => 1,
+            NoteLiteral::E => 2,
+            NoteLiteral::F => 3,
+            NoteLiteral::G => 4,
+            NoteLiteral::A => 5,
+            NoteLiteral::B => 6,
+        }
+    }
+
+    // The letter of a number from 0 to 6; C for any other.
+    pub fn from_number(number: u8) -> NoteLiteral
+        ensures { λ r. ⌜ r ≡ letterOf number ⌝ }
+    {
+        match number {
+            0 => NoteLiteral::C,
+            1 => NoteLiteral::D,
+            2 => NoteLiteral::E,
+            3 => NoteLiteral::F,
+            4 => NoteLiteral::G,
+            5 => NoteLiteral::A,
+            6 => NoteLiteral::B,
+            _ => NoteLiteral::C,
+        }
+    }
+}
+
+impl RootModifier {
+    // Flat -1, sharp 1.
+    pub fn alteration(self) -> i8
+        ensures { λ r. ⌜ r ≡ alterationOf self ⌝ }
+    {
+        match self {
+            RootModifier::Natural => 0,
+            RootModifier::Sharp => 1,
+            RootModifier::Flat => -1,
+        }
+    }
+}
+
+impl Note {
+    pub(crate) fn same(self, other: Note) -> bool
+        ensures { λ r. ⌜ ((r ≡ true) ↔ (self ≡ other)) ⌝ }
+    {
+        let a = self.literal;
+        let b = other.literal;
+        if a.number() != b.number() {
+            return false;
+        }
+        let m = self.modifier;
+        let n = other.modifier;
+        m.alteration() == n.alteration()
+    }
+}
+
+impl OptionalNote {
+    pub(crate) fn same(self, other: OptionalNote) -> bool
+        ensures { λ r. ⌜ ((r ≡ true) ↔ (self ≡ other)) ⌝ }
+    {
+        match self {
+            OptionalNote::None => match other {
+                OptionalNote::None => true,
+                OptionalNote::Some(_) => false,
+            },
+            OptionalNote::Some(a) => match other {
+                OptionalNote::None => false,
+                OptionalNote::Some(b) => a.same(b),
+            },
+        }
+    }
+}
