@@ -1,0 +1,76 @@
+-- Tokens, their types and the numbers of these, and the list of tokens that three parallel arrays hold.
+use mathlib.Core.Bool.{cond}
+use mathlib.Core.List.{List, [], _∷_}
+use Prim.Native.Nat.{ℕ, _+_, _-_, _≤_}
+use lib.Dec.{ltb}
+use lib.ListN.{length, getD}
+use Rattle.chord.specs.Note.{letterNumber, letterOf}
+use Rattle.token.specs.declared.TokenType.the-variants.{Note, Sharp, Flat, Aug, Dim, Dim7, HalfDim, Extension, Add, Omit, Alt, Sus, Minor, Hyphen, Maj, Maj7, Slash, LParent, RParent, Comma, Bass, Illegal, Eof}
+use Rattle.token.specs.declared.TokenType.{TokenType}
+
+-- "A token holds numbers, no borrowed text": the number of its type, its position and its length.
+pub record Token : Type 0 where
+  pub kind : ℕ
+  pub pos : ℕ
+  pub len : ℕ
+
+abbrev pub token : ℕ → ℕ → ℕ → Token
+token k p l = record { kind = k; pos = p; len = l }
+
+-- The number of a type: its place in the Rust's order; a note has 64 and its letter, an extension 32 and its number.
+abbrev pub numberOf : TokenType → ℕ
+numberOf (Note l) = 64 + letterNumber l
+numberOf Sharp = 1
+numberOf Flat = 2
+numberOf Aug = 3
+numberOf Dim = 4
+numberOf Dim7 = 5
+numberOf HalfDim = 6
+numberOf (Extension n) = 32 + n
+numberOf Add = 8
+numberOf Omit = 9
+numberOf Alt = 10
+numberOf Sus = 11
+numberOf Minor = 12
+numberOf Hyphen = 13
+numberOf Maj = 14
+numberOf Maj7 = 15
+numberOf Slash = 16
+numberOf LParent = 17
+numberOf RParent = 18
+numberOf Comma = 19
+numberOf Bass = 20
+numberOf Illegal = 21
+numberOf Eof = 22
+
+-- The type of a number; a number that no type has gives Illegal.
+abbrev pub plainTypes : List TokenType
+plainTypes =
+    Illegal ∷ Sharp ∷ Flat ∷ Aug ∷ Dim ∷ Dim7 ∷ HalfDim ∷ Illegal ∷ Add ∷ Omit ∷ Alt ∷ Sus ∷ Minor ∷ Hyphen ∷ Maj ∷ Maj7 ∷ Slash ∷ LParent
+    ∷ RParent ∷ Comma ∷ Bass ∷ Illegal ∷ Eof ∷ []
+
+abbrev pub plainType : ℕ → TokenType
+plainType k = getD plainTypes k Illegal
+
+unfoldable pub typeOf : ℕ → TokenType
+typeOf k =
+    cond (ltb k 32) (plainType k)
+    (cond (ltb k 64) (Extension (k - 32))
+    (cond (ltb k 71) (Note (letterOf (k - 64)))
+    Illegal))
+
+-- the arrays' tokens, row by row, as far as the shortest goes
+unfoldable pub rows : List ℕ → List ℕ → List ℕ → List Token
+rows [] ps ls = []
+rows (k ∷ ks) [] ls = []
+rows (k ∷ ks) (p ∷ ps) [] = []
+rows (k ∷ ks) (p ∷ ps) (l ∷ ls) = token k p l ∷ rows ks ps ls
+
+-- the arrays have room for n tokens
+pub record Room (n : ℕ) (ks ps ls : List ℕ) : Type 0 where
+  pub kinds : n ≤ length ks
+  pub poss : n ≤ length ps
+  pub lens : n ≤ length ls
+
+abbrev pub at : List Token → ℕ → Token
+at ts i = getD ts i (token 0 0 0)

@@ -1,0 +1,112 @@
+// Tokens: their types, and lists of them in three lent arrays of numbers.
+ghost use mathlib.Core.Path.{_≡_};
+ghost use Prim.Native.Nat.{_+_, _<_};
+ghost use lib.ListN.{set};
+ghost use Rattle.token.specs.Token.{token as tokenOf, typeOf, plainType, rows, Room, at as tokenAt};
+use chord::note::NoteLiteral;
+
+pub enum TokenType {
+    Note(NoteLiteral),
+    Sharp,
+    Flat,
+    Aug,
+    Dim,
+    Dim7,
+    HalfDim,
+    Extension(u8),
+    Add,
+    Omit,
+    Alt,
+    Sus,
+    Minor,
+    Hyphen,
+    Maj,
+    Maj7,
+    Slash,
+    LParent,
+    RParent,
+    Comma,
+    Bass,
+    Illegal,
+    Eof,
+}
+
+// The type of a number below 32: those that carry nothing have their place in the Rust's order.
+fn plain_type(number: u8) -> TokenType
+    requires { ⌜ number < 32 ⌝ }
+    ensures { λ r. ⌜ r ≡ plainType number ⌝ }
+{
+    match number {
+        0 => TokenType::Illegal,
+        1 => TokenType::Sharp,
+        2 => TokenType::Flat,
+        3 => TokenType::Aug,
+        4 => TokenType::Dim,
+        5 => TokenType::Dim7,
+        6 => TokenType::HalfDim,
+        7 => TokenType::Illegal,
+        8 => TokenType::Add,
+        9 => TokenType::Omit,
+        10 => TokenType::Alt,
+        11 => TokenType::Sus,
+        12 => TokenType::Minor,
+        13 => TokenType::Hyphen,
+        14 => TokenType::Maj,
+        15 => TokenType::Maj7,
+        16 => TokenType::Slash,
+        17 => TokenType::LParent,
+        18 => TokenType::RParent,
+        19 => TokenType::Comma,
+        20 => TokenType::Bass,
+        21 => TokenType::Illegal,
+        22 => TokenType::Eof,
+        _ => TokenType::Illegal,
+    }
+}
+
+impl TokenType {
+    // The type that a number of the arrays stands for.
+    pub fn from_number(number: u8) -> TokenType
+        ensures { λ r. ⌜ r ≡ typeOf number ⌝ }
+    {
+        if number < 32 {
+            return plain_type(number);
+        }
+        if number < 64 {
+            return TokenType::Extension(number - 32);
+        }
+        if number < 71 {
+            return TokenType::Note(NoteLiteral::from_number(number - 64));
+        }
+        TokenType::Illegal
+    }
+}
+
+// Puts a token at a place.
+pub fn put(
+    kinds: &mut [u8],
+    poss: &mut [u16],
+    lens: &mut [u16],
+    at: usize,
+    kind: u8,
+    pos: u16,
+    len: u16,
+)
+    requires { ⌜ Room (at + 1) (now kinds) (now poss) (now lens) ⌝ }
+    ensures { λ _. ⌜ rows (now (kinds .exit)) (now (poss .exit)) (now (lens .exit)) ≡ set (rows (now (kinds .entry)) (now (poss .entry)) (now (lens .entry))) at (tokenOf kind pos len) ⌝ }
+{
+    kinds[at] = kind;
+    poss[at] = pos;
+    lens[at] = len;
+}
+
+// Puts the token of place `from` at place `to` too.
+pub fn copy(kinds: &mut [u8], poss: &mut [u16], lens: &mut [u16], to: usize, from: usize)
+    requires { ⌜ Room (to + 1) (now kinds) (now poss) (now lens) × Room (from + 1) (now kinds) (now poss) (now lens) ⌝ }
+    ensures { λ _. ⌜ (let R = rows (now (kinds .entry)) (now (poss .entry)) (now (lens .entry)) in rows (now (kinds .exit)) (now (poss .exit)) (now (lens .exit)) ≡ set R to (tokenAt R from)) ⌝ }
+{
+    let kind = kinds[from];
+    let pos = poss[from];
+    let len = lens[from];
+    put(kinds, poss, lens, to, kind, pos, len);
+}
