@@ -1,0 +1,4 @@
+mod Words
+mod Heads
+mod Shifts
+mod Steps

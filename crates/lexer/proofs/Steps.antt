@@ -1,0 +1,201 @@
+-- One step of the walk keeps the whole: what stands in the arrays and what is still to come.
+-- Assumes nothing.
+use mathlib.Core.Bool.{true, false}
+use mathlib.Core.List.{List, [], _∷_, _++_, append-assoc}
+use mathlib.Core.Path.{_≡_, refl, sym, ap, ap₂, _∙_, subst}
+use Prim.Native.Nat.{ℕ, zero, suc, _+_, _-_, _≤_, _<_}
+use native.Mathlib.Nat.{add-zero}
+use native.Mathlib.Numerals.{add-one}
+use native.Mathlib.Omega.{arith}
+use lib.Dec.{T}
+use lib.ListN.{length, take, drop, set, length-append, drop-of-length-le, length-drop}
+use lib.Seq.{slice, slice-empty, drop-cons, drop-drop, take-take, take-at, drop-at, length-take-le, take-suc-set, drop-set-lt}
+use Rattle.token.specs.Token.{Token, token}
+use Rattle.lexer.specs.Lexer.{headOf, emit, lex, sizeOf}
+use Rattle.lexer.specs.State.{planOf, whole, Few, Inserted, Emitted, Written, scan}
+use Rattle.lexer.specs.declared.Head.the-variants as head
+use Rattle.lexer.specs.declared.Head.{Head}
+use Rattle.lexer.specs.declared.Plan.{Plan}
+use Rattle.lexer.specs.declared.Scan.{Scan}
+use Rattle.lexer.proofs.Heads.{Sized, head-sized}
+use Rattle.lexer.proofs.Shifts.{in-parts}
+use Rattle.token.proofs.Parts.{later}
+
+skip : (k : ℕ) (h : List Token) (p : ℕ) (s : List ℕ) → lex k h p s ≡ lex 0 h (p + k) (drop k s)
+unfolding lex
+skip zero h p s = ap (λ q. lex 0 h q s) (sym (add-zero p))
+skip (suc k) h p [] = refl
+skip (suc k) h p (b ∷ s) = let e : p + 1 + k ≡ p + suc k = omega arith in skip k h (p + 1) s ∙ ap (λ q. lex 0 h q (drop k s)) e
+
+-- going on after a head of n bytes
+go-on : (text : List ℕ) (at n : ℕ) (h : List Token) → 1 ≤ n → lex (n - 1) h (at + 1) (drop (at + 1) text) ≡ lex 0 h (at + n) (drop (at + n) text)
+go-on text at n h l =
+    let e : at + 1 + (n - 1) ≡ at + n = omega arith in
+    skip (n - 1) h (at + 1) (drop (at + 1) text) ∙ ap₂ (λ q t. lex 0 h q t) e (drop-drop (n - 1) (at + 1) text ∙ ap (λ q. drop q text) e)
+
+open-head : (text : List ℕ) (at : ℕ) (h : List Token) → at < length text → lex 0 h at (drop at text) ≡ emit (headOf (drop at text)) h at (λ k g. lex k g (at + 1) (drop (at + 1) text))
+unfolding lex
+open-head text at h l = rw (drop-cons text at 0 l, add-one at)
+
+module _ {t : Token} {p n : ℕ} {R R′ : List Token} (le : p ≤ n) (b : n + 1 ≤ length R) (I : Inserted t p n R R′) where
+  front-length : length (take p R ++ (t ∷ [])) ≡ p + 1
+  front-length = length-append (take p R) (t ∷ []) ∙ ap (λ k. k + 1) (length-take-le p R (omega arith))
+
+  list-two : take (n + 1) R′ ≡ (take p R ++ (t ∷ [])) ++ slice p n R
+  list-two = I .list ∙ sym (append-assoc (take p R) (t ∷ []) (slice p n R))
+
+  pub front : take p R′ ≡ take p R
+  front = sym (take-take p (n + 1) R′ (omega arith)) ∙ ap (take p) (I .list) ∙ take-at (take p R) (t ∷ slice p n R) p (length-take-le p R (omega arith))
+
+  pub front-new : take (p + 1) R′ ≡ take p R ++ (t ∷ [])
+  front-new = sym (take-take (p + 1) (n + 1) R′ (omega arith)) ∙ ap (take (p + 1)) list-two ∙ take-at (take p R ++ (t ∷ [])) (slice p n R) (p + 1) front-length
+
+  pub back-new : slice p (n + 1) R′ ≡ t ∷ slice p n R
+  back-new = ap (drop p) (I .list) ∙ drop-at (take p R) (t ∷ slice p n R) p (length-take-le p R (omega arith))
+
+  pub back : slice (p + 1) (n + 1) R′ ≡ slice p n R
+  back = ap (drop (p + 1)) list-two ∙ drop-at (take p R ++ (t ∷ [])) (slice p n R) (p + 1) front-length
+
+module _ (text : List ℕ) (s : Scan) (R R′ : List Token) (F : Few text s) (l : s .at < length text) where
+  before-step : (h : Head) → h ≡ headOf (drop (s .at) text) → whole text s R ≡ take (s .held) R ++ emit h (slice (s .held) (s .count) R) (s .at) (λ k g. lex k g (s .at + 1) (drop (s .at + 1) text))
+  before-step h e = ap (λ q. take (s .held) R ++ q) (open-head text (s .at) (slice (s .held) (s .count) R) l ∙ ap (λ g. emit g (slice (s .held) (s .count) R) (s .at) (λ k g. lex k g (s .at + 1) (drop (s .at + 1) text))) (sym e))
+
+  all : take (s .count) R ≡ take (s .held) R ++ slice (s .held) (s .count) R
+  all = in-parts R (s .held) (s .count) (F .among)
+
+  -- a token at the end, behind which nothing is held: that of a sign or a word
+  at-end : (t : Token) (n : ℕ) → 1 ≤ n → s .count + 1 ≤ length R → Inserted t (s .count) (s .count) R R′
+      → take (s .count + 1) R′ ++ lex 0 (slice (s .count + 1) (s .count + 1) R′) (s .at + n) (drop (s .at + n) text)
+      ≡ take (s .held) R ++ (slice (s .held) (s .count) R ++ (t ∷ lex (n - 1) [] (s .at + 1) (drop (s .at + 1) text)))
+  at-end t n o b I =
+      ap₂ (λ f h. f ++ lex 0 h (s .at + n) (drop (s .at + n) text)) (front-new (omega arith) b I) (slice-empty (s .count + 1) R′)
+      ∙ append-assoc (take (s .count) R) (t ∷ []) (lex 0 [] (s .at + n) (drop (s .at + n) text))
+      ∙ ap₂ (λ f r. f ++ (t ∷ r)) all (sym (go-on text (s .at) n [] o))
+      ∙ append-assoc (take (s .held) R) (slice (s .held) (s .count) R) (t ∷ lex (n - 1) [] (s .at + 1) (drop (s .at + 1) text))
+
+  pub step-whole : (h : Head) → h ≡ headOf (drop (s .at) text) → 1 ≤ sizeOf h → s .count + 1 ≤ length R → Emitted h s (planOf h s .next) R R′ → whole text (planOf h s .next) R′ ≡ whole text s R
+  step-whole head.Space e o b E =
+      let z = E .none refl in
+      ap (λ r. take (s .count) r ++ lex 0 (slice (s .count) (s .count) r) (s .at + 1) (drop (s .at + 1) text)) z
+      ∙ ap₂ (λ f h. f ++ lex 0 h (s .at + 1) (drop (s .at + 1) text)) all (slice-empty (s .count) R)
+      ∙ append-assoc (take (s .held) R) (slice (s .held) (s .count) R) (lex 0 [] (s .at + 1) (drop (s .at + 1) text))
+      ∙ sym (before-step head.Space e)
+  step-whole (head.Sign k n) e o b E = at-end (token k (s .at + n) 1) n o b (E .one refl) ∙ sym (before-step (head.Sign k n) e)
+  step-whole (head.Word k n) e o b E = at-end (token k (s .at) n) n o b (E .one refl) ∙ sym (before-step (head.Word k n) e)
+  step-whole (head.Number k n) e o b E =
+      ap₂ (λ f h. f ++ lex 0 h (s .at + n) (drop (s .at + n) text)) (front-new (F .among) b (E .one refl)) (back (F .among) b (E .one refl))
+      ∙ append-assoc (take (s .held) R) (token k (s .at) n ∷ []) (lex 0 (slice (s .held) (s .count) R) (s .at + n) (drop (s .at + n) text))
+      ∙ ap (λ r. take (s .held) R ++ (token k (s .at) n ∷ r)) (sym (go-on text (s .at) n (slice (s .held) (s .count) R) o))
+      ∙ sym (before-step (head.Number k n) e)
+  step-whole head.Digit e o b E =
+      ap₂ (λ f h. f ++ lex 0 h (s .at + 1) (drop (s .at + 1) text)) (front (F .among) b (E .one refl)) (back-new (F .among) b (E .one refl))
+      ∙ sym (before-step head.Digit e)
+
+  -- there is still one token a byte at most
+  pub step-few : (h : Head) → 1 ≤ sizeOf h → s .at + sizeOf h ≤ length text → Few text (planOf h s .next)
+  step-few head.Space o w = record { among = omega arith; some = omega (arith, F .some); within = w }
+  step-few (head.Sign k n) o w = record { among = omega arith; some = omega (arith, F .some); within = w }
+  step-few (head.Word k n) o w = record { among = omega arith; some = omega (arith, F .some); within = w }
+  step-few (head.Number k n) o w = record { among = omega (arith, F .among); some = omega (arith, F .some); within = w }
+  step-few head.Digit o w = record { among = omega (arith, F .among); some = omega (arith, F .some); within = w }
+
+  -- the place moves on, and what lies beyond the tokens is untouched
+  pub step-far : (h : Head) → 1 ≤ sizeOf h → s .at < planOf h s .next .at
+  step-far head.Space o = omega arith
+  step-far (head.Sign k n) o = omega arith
+  step-far (head.Word k n) o = omega arith
+  step-far (head.Number k n) o = omega arith
+  step-far head.Digit o = omega arith
+
+  pub step-rest : (h : Head) → Emitted h s (planOf h s .next) R R′ → drop (planOf h s .next .count) R′ ≡ drop (planOf h s .next .count) R
+  step-rest head.Space E = ap (drop (s .count)) (E .none refl)
+  step-rest (head.Sign k n) E = E .one refl .rest
+  step-rest (head.Word k n) E = E .one refl .rest
+  step-rest (head.Number k n) E = E .one refl .rest
+  step-rest head.Digit E = E .one refl .rest
+
+  pub step-count : (h : Head) → s .count ≤ planOf h s .next .count
+  step-count head.Space = omega arith
+  step-count (head.Sign k n) = omega arith
+  step-count (head.Word k n) = omega arith
+  step-count (head.Number k n) = omega arith
+  step-count head.Digit = omega arith
+
+-- what the loop keeps true of the tokens R, where they were R₀ at first
+pub record Walked (text : List ℕ) (s : Scan) (R₀ R : List Token) : Type 0 where
+  pub few : Few text s
+  pub list : whole text s R ≡ lex 0 [] 0 text
+  pub rest : drop (s .count) R ≡ drop (s .count) R₀
+
+pub walk-start : (text : List ℕ) (R : List Token) → Walked text (scan 0 0 0) R R
+walk-start text R = record { few = record { among = omega arith; some = omega arith; within = omega arith }; list = refl; rest = refl }
+
+module _ {text : List ℕ} {s : Scan} {R₀ R : List Token} {h : Head} (W : Walked text s R₀ R) (l : s .at < length text) (e : h ≡ headOf (drop (s .at) text)) where
+  -- the head lies within the text
+  pub walk-head : (1 ≤ sizeOf h) × (s .at + sizeOf h ≤ length text)
+  walk-head =
+      let n : length (drop (s .at) text) ≡ length text - s .at = length-drop (s .at) text in
+      let z = subst (λ (g : Head). Sized g (drop (s .at) text)) (sym e) (head-sized (drop (s .at) text) (omega arith)) in
+      (z .some, omega (arith, z .within))
+
+  pub walk-step : {s′ : Scan} {R′ : List Token} → s .count + 1 ≤ length R → Emitted h s s′ R R′ → Walked text s′ R₀ R′
+  walk-step {s′} {R′} b E =
+      let next = planOf h s .next in
+      let N : Emitted h s next R R′ = subst (λ (q : Scan). Emitted h s q R R′) (E .state) E in
+      let r : drop (next .count) R′ ≡ drop (next .count) R₀ =
+      step-rest text s R R′ (W .few) l h N ∙ later R R₀ (s .count) (next .count) (step-count text s R R′ (W .few) l h) (W .rest) in
+      let w : Walked text next R₀ R′ =
+      record {
+        few = step-few text s R R′ (W .few) l h (walk-head .0) (walk-head .1);
+        list = step-whole text s R R′ (W .few) l h e (walk-head .0) b N ∙ W .list;
+        rest = r;
+      } in
+      subst (λ (q : Scan). Walked text q R₀ R′) (sym (E .state)) w
+
+  pub walk-far : {s′ : Scan} {R′ : List Token} → Emitted h s s′ R R′ → s .at < s′ .at
+  walk-far {s′} {R′} E = subst (λ (q : Scan). s .at < q .at) (sym (E .state)) (step-far text s R R′ (W .few) l h (walk-head .0))
+
+-- the walk is done: the tokens in the arrays are all
+pub walk-end : (text : List ℕ) (s : Scan) (R₀ R : List Token) → Walked text s R₀ R → length text ≤ s .at → s .count ≤ length R → Written (lex 0 [] 0 text) (s .count) R₀ R
+unfolding lex
+walk-end text s R₀ R W l b =
+    let e : take (s .count) R ≡ lex 0 [] 0 text =
+    in-parts R (s .held) (s .count) (W .few .among)
+    ∙ ap (λ t. take (s .held) R ++ lex 0 (slice (s .held) (s .count) R) (s .at) t) (sym (drop-of-length-le text l))
+    ∙ W .list in
+    record { count = sym (length-take-le (s .count) R b) ∙ ap length e; list = e; rest = W .rest }
+
+-- the place of a plan is among the tokens
+pub place-low : (h : Head) (s : Scan) → s .held ≤ s .count → planOf h s .place ≤ s .count
+place-low head.Space s h = omega arith
+place-low (head.Sign k n) s h = omega arith
+place-low (head.Word k n) s h = omega arith
+place-low (head.Number k n) s h = h
+place-low head.Digit s h = h
+
+-- one more token behind those that were written
+pub written-more : {ts : List Token} {n : ℕ} {R₀ R R′ : List Token} (t : Token) → n + 1 ≤ length R → Written ts n R₀ R → R′ ≡ set R n t → Written (ts ++ (t ∷ [])) (n + 1) R₀ R′
+written-more {ts} {n} {R₀} {R} {R′} t b W e =
+    record {
+      count = ap (λ k. k + 1) (W .count) ∙ sym (length-append ts (t ∷ []));
+      list = ap (take (n + 1)) e ∙ rw add-one (take-suc-set R n t (omega arith) ∙ ap (λ l. l ++ (t ∷ [])) (W .list));
+      rest = ap (drop (n + 1)) e ∙ drop-set-lt (n + 1) R n t (omega arith) ∙ later R R₀ n (n + 1) (omega arith) (W .rest);
+    }
+
+-- a plan that was carried out
+module _ {h : Head} {s : Scan} {p : Plan} (e : p ≡ planOf h s) where
+  pub did-nothing : (R : List Token) → p .adds ≡ false → Emitted h s (p .next) R R
+  did-nothing R z =
+      record {
+        state = ap (λ q. q .next) e;
+        none = λ y. refl;
+        one = λ y. absurd (subst T (sym y ∙ ap (λ q. q .adds) (sym e) ∙ z) tt);
+      }
+
+  pub did-insert : {R R′ : List Token} → p .adds ≡ true → Inserted (token (p .kind) (p .pos) (p .len)) (p .place) (s .count) R R′ → Emitted h s (p .next) R R′
+  did-insert {R} {R′} z I =
+      record {
+        state = ap (λ q. q .next) e;
+        none = λ y. absurd (subst T (sym z ∙ ap (λ q. q .adds) e ∙ y) tt);
+        one = λ y. subst (λ q. Inserted (token (q .kind) (q .pos) (q .len)) (q .place) (s .count) R R′) e I;
+      }

@@ -1,0 +1,97 @@
+-- The word list: the lent tables hold it row by row, and one turn of each loop over it is a step of the definition.
+-- Assumes nothing.
+use mathlib.Core.Bool.{Bool, true, false, _&&_}
+use mathlib.Core.List.{List, [], _∷_, _++_, map}
+use mathlib.Core.Path.{_≡_, refl, ap, _∙_}
+use Prim.Native.Nat.{ℕ, zero, suc, _+_, _≤_, _<_}
+use native.Mathlib.Numerals.{add-one}
+use native.Mathlib.Omega.{arith}
+use lib.Dec.{T, eqb, leb, leb→le}
+use lib.ListN.{length, getD, drop, replicate, drop-of-length-le}
+use lib.Seq.{drop-cons, getD-take}
+use Rattle.utf8.specs.Utf8.{begins}
+use Rattle.lexer.specs.State.{padded, wordAt}
+use Rattle.lexer.specs.Words.{Word, word, words, better, longestOf}
+use Rattle.lexer.specs.declared.Match.{Match}
+
+at-map : {A : Type 0} (f : Word → A) (l : List Word) (i : ℕ) (d : Word) (e : A) → i < length l → getD (map f l) i e ≡ f (getD l i d)
+at-map f [] i d e h = absurd (omega arith)
+at-map f (w ∷ l) zero d e h = refl
+at-map f (w ∷ l) (suc i) d e h = at-map f l i d e (omega arith)
+
+zeros : (n j : ℕ) → _≡_ {A = ℕ} (getD (replicate n 0) j 0) 0
+zeros zero j = refl
+zeros (suc n) zero = refl
+zeros (suc n) (suc j) = zeros n j
+
+before-zeros : (l : List ℕ) (n j : ℕ) → getD (l ++ replicate n 0) j 0 ≡ getD l j 0
+before-zeros [] n j = zeros n j
+before-zeros (x ∷ l) n zero = refl
+before-zeros (x ∷ l) n (suc j) = before-zeros l n j
+
+fits : List Word → Bool
+fits [] = true
+fits (w ∷ ws) = leb (length (w .text)) 10 && fits ws
+
+left : (a b : Bool) → T (a && b) → T a
+left true b t = tt
+left false b t = t
+
+right : (a b : Bool) → T (a && b) → T b
+right true b t = t
+right false b t = absurd t
+
+fits-at : (l : List Word) → T (fits l) → (i : ℕ) (d : Word) → i < length l → length (getD l i d .text) ≤ 10
+unfolding fits
+fits-at [] t i d h = absurd (omega arith)
+fits-at (w ∷ l) t zero d h = leb→le _ _ (left (leb (length (w .text)) 10) (fits l) t)
+fits-at (w ∷ l) t (suc i) d h = fits-at l (right (leb (length (w .text)) 10) (fits l) t) i d (omega arith)
+
+-- 55 words of at most ten letters, by computation
+words-count : length words ≡ 55
+unfolding words
+words-count = refl
+
+words-fit : T (fits words)
+unfolding words fits
+words-fit = tt
+
+module _ (i : ℕ) (h : i < 55) where
+  in-list : i < length words
+  in-list = omega (arith, words-count)
+
+  pub word-fits : length (wordAt i .text) ≤ 10
+  word-fits = fits-at words words-fit i (word [] 0) in-list
+
+  pub letter-is : (j : ℕ) → j < 10 → getD (getD (map padded words) i []) j 0 ≡ getD (wordAt i .text) j 0
+  letter-is j k =
+      ap (λ l. getD l j 0) (at-map padded words i (word [] 0) [] in-list)
+      ∙ getD-take 10 (wordAt i .text ++ replicate 10 0) j 0 k
+      ∙ before-zeros (wordAt i .text) 10 j
+
+  pub size-is : getD (map (λ w. length (w .text)) words) i 0 ≡ length (wordAt i .text)
+  size-is = at-map (λ w. length (w .text)) words i (word [] 0) 0 in-list
+
+  pub type-is : getD (map (λ w. w .kind) words) i 0 ≡ wordAt i .kind
+  type-is = at-map (λ w. w .kind) words i (word [] 0) 0 in-list
+
+  -- one word
+  pub longest-turn : (s : List ℕ) (m : Match) → longestOf (drop i words) s m ≡ longestOf (drop (i + 1) words) s (better s (wordAt i) m)
+  unfolding longestOf
+  longest-turn s m = rw (drop-cons words i (word [] 0) in-list, add-one i)
+
+pub longest-none : (s : List ℕ) (m : Match) → longestOf (drop 55 words) s m ≡ m
+unfolding longestOf words
+longest-none s m = refl
+
+module _ (w s : List ℕ) (j k : ℕ) (hj : j < length w) where
+  -- the text has ended
+  pub begins-short : length s ≤ k → begins (drop j w) (drop k s) ≡ false
+  begins-short h = rw (drop-cons w j 0 hj, drop-of-length-le s h)
+
+  -- one letter of each
+  pub begins-turn : k < length s → begins (drop j w) (drop k s) ≡ (eqb (getD w j 0) (getD s k 0) && begins (drop (j + 1) w) (drop (k + 1) s))
+  begins-turn h = rw (drop-cons w j 0 hj, drop-cons s k 0 h, add-one j, add-one k)
+
+pub begins-all : (w s : List ℕ) (j k : ℕ) → length w ≤ j → begins (drop j w) (drop k s) ≡ true
+begins-all w s j k h = rw (drop-of-length-le w h)

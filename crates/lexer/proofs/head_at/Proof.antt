@@ -1,0 +1,48 @@
+-- The character that stands there decides.
+-- Assumes nothing.
+use mathlib.Core.Path.{sym, ap, _∙_}
+use lib.ListN.{drop}
+use borrow.Author.Needs.{needs}
+use Rattle.lexer.specs.Lexer.{headBy, headOf}
+use Rattle.lexer.proofs.head_at.Statement.{statement}
+use Rattle.lexer.proofs.head_at.Tie as tie
+
+char-at-requires : tie.Need-char-at-requires
+char-at-requires c κs = search needs
+
+enum-known-c : tie.Need-enum-known-c
+enum-known-c c = search needs
+
+head-by-requires : tie.Need-head-by-requires
+head-by-requires c κs = search needs
+
+enum-told : tie.Need-enum-told
+enum-told c = search needs
+
+enum-told-2 : tie.Need-enum-told-2
+enum-told-2 c = search needs
+
+returns : tie.Need-returns
+unfolding headOf
+returns c = c .head-by .ensures ∙ ap (λ f. headBy f (drop (c .before .before .before .before .before .before .args .at) (c .before .before .before .before .before .before .args .text .now))) (sym (c .before .before .c .given .1) ∙ c .before .before .before .before .char-at .ensures)
+
+returns-2 : tie.Need-returns-2
+unfolding headOf
+returns-2 c = ap (λ f. headBy f (drop (c .before .before .before .before .args .at) (c .before .before .before .before .args .text .now))) (sym (c .enum-told .given .1) ∙ c .before .before .char-at .ensures)
+
+returns-3 : tie.Need-returns-3
+unfolding headOf
+returns-3 c = ap (λ f. headBy f (drop (c .before .before .before .before .args .at) (c .before .before .before .before .args .text .now))) (sym (c .enum-told2 .given .1) ∙ c .before .before .char-at .ensures)
+
+pub head-at-spec : {M : Type 1} → statement M
+head-at-spec =
+    tie.close
+    (tie.spec
+    char-at-requires
+    enum-known-c
+    head-by-requires
+    enum-told
+    enum-told-2
+    returns
+    returns-2
+    returns-3)

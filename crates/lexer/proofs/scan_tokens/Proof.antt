@@ -1,0 +1,30 @@
+-- The three tables are the word list, by computation.
+-- Assumes nothing.
+use mathlib.Core.Path.{refl}
+use borrow.Author.Needs.{needs}
+use Rattle.lexer.specs.Words as Words
+use Rattle.lexer.specs.Words.{words}
+use Rattle.lexer.proofs.scan_tokens.Statement.{statement}
+use Rattle.lexer.proofs.scan_tokens.Tie as tie
+
+scan-to-end-requires : tie.Need-scan-to-end-requires
+unfolding Words.words
+scan-to-end-requires c κs =
+    let p = c .before .before .before .before .before .before .before .before .before .before .pre in
+    (record { texts = refl; sizes = refl; types = refl }, p .0, p .1)
+
+same-length : tie.Need-same-length
+same-length c = search needs
+
+same-length-2 : tie.Need-same-length-2
+same-length-2 c = search needs
+
+same-length-3 : tie.Need-same-length-3
+same-length-3 c = search needs
+
+returns : tie.Need-returns
+returns c = search needs
+
+pub scan-tokens-spec : {M : Type 1} → statement M
+scan-tokens-spec =
+    tie.close (tie.spec scan-to-end-requires same-length same-length-2 same-length-3 returns)

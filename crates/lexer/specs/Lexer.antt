@@ -1,0 +1,117 @@
+-- From bytes to tokens (document 01, the section of that name).
+use mathlib.Core.Bool.{Bool, false, _&&_, _||_, cond}
+use mathlib.Core.List.{List, [], _∷_, _++_}
+use Prim.Native.Nat.{ℕ, zero, suc, _+_, _-_, _*_}
+use lib.Dec.{eqb, leb}
+use lib.ListN.{length, getD}
+use Rattle.token.specs.Token.{Token, token, numberOf}
+use Rattle.token.specs.declared.TokenType.the-variants.{Sharp, Flat, Aug, Dim, HalfDim, Extension, Hyphen, Maj7, Slash, LParent, RParent, Comma, Illegal, Eof}
+use Rattle.utf8.specs.Utf8.{charOf}
+use Rattle.utf8.specs.declared.Found.the-variants as utf8
+use Rattle.utf8.specs.declared.Found.{Found}
+use Rattle.lexer.specs.Words.{longest}
+use Rattle.lexer.specs.declared.Head.the-variants.{Space, Sign, Word, Number, Digit}
+use Rattle.lexer.specs.declared.Head.{Head}
+use Rattle.lexer.specs.declared.Match.{Match}
+
+abbrev pub illegal : ℕ
+illegal = numberOf Illegal
+
+unfoldable pub isLetter : ℕ → Bool
+isLetter c = leb 65 c && leb c 90 || leb 97 c && leb c 122
+
+unfoldable pub isDigit : ℕ → Bool
+isDigit c = leb 48 c && leb c 57
+
+unfoldable pub elem : ℕ → List ℕ → Bool
+elem x [] = false
+elem x (y ∷ ys) = eqb x y || elem x ys
+
+-- The signs of `scan_token`, by character; 0 for a character that has no token of its own.
+unfoldable pub signOf : ℕ → ℕ
+signOf c =
+    cond (eqb c 0x23 || eqb c 0x266F) (numberOf Sharp)
+    (cond (eqb c 0x266D) (numberOf Flat)
+    (cond (eqb c 0x25B3 || eqb c 0x5E || eqb c 0x394) (numberOf Maj7)
+    (cond (eqb c 0x2D) (numberOf Hyphen)
+    (cond (eqb c 0xB0) (numberOf Dim)
+    (cond (eqb c 0xF8) (numberOf HalfDim)
+    (cond (eqb c 0x2F) (numberOf Slash)
+    (cond (eqb c 0x2B) (numberOf Aug)
+    (cond (eqb c 0x2C) (numberOf Comma)
+    (cond (eqb c 0x28) (numberOf LParent)
+    (cond (eqb c 0x29) (numberOf RParent)
+    0))))))))))
+
+-- "Each character that is no ASCII letter, ASCII digit or space and has no token of its own is Illegal, at its first byte, with its byte
+-- length": as a word that no list has.
+abbrev pub signHead : ℕ → ℕ → Head
+signHead c n = cond (eqb (signOf c) 0) (Word illegal n) (Sign (signOf c) n)
+
+-- "An unmatched letter is Illegal."
+abbrev pub wordHead : Match → Head
+wordHead m = cond (eqb (m .len) 0) (Word illegal 1) (Word (m .kind) (m .len))
+
+-- the digit at a place of the text; 10 for none
+abbrev pub digitAt : List ℕ → ℕ → ℕ
+digitAt s i = cond (isDigit (getD s i 0)) (getD s i 0 - 48) 10
+
+-- "A digit run is cut by longest of 2 3 4 5 6 7 9 11 13": two digits, else one, else none.
+abbrev pub twoDigits : List ℕ
+twoDigits = 11 ∷ 13 ∷ []
+
+abbrev pub oneDigit : List ℕ
+oneDigit = 2 ∷ 3 ∷ 4 ∷ 5 ∷ 6 ∷ 7 ∷ 9 ∷ []
+
+abbrev pub numberHead : ℕ → ℕ → Head
+numberHead d e =
+    cond (elem (10 * d + e) twoDigits) (Number (numberOf (Extension (10 * d + e))) 2)
+    (cond (elem d oneDigit) (Number (numberOf (Extension d)) 1)
+    Digit)
+
+-- what a text begins with, by its first character. (In a well-formed text there is always one.)
+abbrev pub headBy : Found → List ℕ → Head
+headBy (utf8.Char c n) s =
+    cond (isLetter c) (wordHead (longest s))
+    (cond (isDigit c) (numberHead (digitAt s 0) (digitAt s 1))
+    (cond (eqb c 0x20) Space
+    (signHead c n)))
+headBy utf8.Bad s = Word illegal 1
+headBy utf8.End s = Word illegal 1
+
+unfoldable pub headOf : List ℕ → Head
+headOf s = headBy (charOf s) s
+
+-- "A one-sign token carries the byte position after its sign."
+abbrev pub signPos : ℕ → ℕ → ℕ
+signPos p n = p + n
+
+-- The tokens from a head at p on. `held` are the Illegal digits of the run so far: "Its Illegal digits come after all its numbers, last one
+-- first." `more k held` goes on after k bytes more.
+abbrev pub emit : Head → List Token → ℕ → (ℕ → List Token → List Token) → List Token
+emit Space held p more = held ++ more 0 []
+emit (Sign k n) held p more = held ++ (token k (signPos p n) 1 ∷ more (n - 1) [])
+emit (Word k n) held p more = held ++ (token k p n ∷ more (n - 1) [])
+emit (Number k n) held p more = token k p n ∷ more (n - 1) held
+emit Digit held p more = more 0 (token illegal p 1 ∷ held)
+
+-- the tokens of a text that begins at p, after its first k bytes
+unfoldable pub lex : ℕ → List Token → ℕ → List ℕ → List Token
+lex k held p [] = held
+lex zero held p (b ∷ s) = emit (headOf (b ∷ s)) held p (λ k held′. lex k held′ (p + 1) s)
+lex (suc k) held p (b ∷ s) = lex k held (p + 1) s
+
+-- "End is at text length + 1, length 0."
+abbrev pub endOf : List ℕ → Token
+endOf s = token (numberOf Eof) (length s + 1) 0
+
+abbrev pub tokensOf : List ℕ → List Token
+tokensOf s = lex 0 [] 0 s ++ (endOf s ∷ [])
+
+-- the bytes of a head
+abbrev pub sizeOf : Head → ℕ
+sizeOf Space = 1
+sizeOf (Sign k n) = n
+sizeOf (Word k n) = n
+sizeOf (Number k n) = n
+sizeOf Digit = 1

@@ -1,0 +1,4 @@
+pub mod Text
+pub mod Words
+pub mod Lexer
+pub mod State

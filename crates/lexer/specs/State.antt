@@ -1,0 +1,68 @@
+-- What the lexer's code keeps while it scans: the lent tables, the place it has come to, and what one step adds.
+use mathlib.Core.Bool.{true, false}
+use mathlib.Core.List.{List, [], _∷_, _++_, map}
+use mathlib.Core.Path.{_≡_}
+use Prim.Native.Nat.{ℕ, _+_, _≤_}
+use lib.ListN.{length, take, drop, replicate, getD}
+use lib.Seq.{slice}
+use Rattle.token.specs.Token.{Token, token}
+use Rattle.lexer.specs.Lexer.{illegal, lex, signPos}
+use Rattle.lexer.specs.Words.{Word, word, words}
+use Rattle.lexer.specs.declared.Head.the-variants as head
+use Rattle.lexer.specs.declared.Head.{Head}
+use Rattle.lexer.specs.declared.Plan.{Plan}
+use Rattle.lexer.specs.declared.Scan.{Scan}
+
+-- "words as rows of ten bytes with a length": a word's letters and zeros up to ten
+abbrev pub padded : Word → List ℕ
+padded w = take 10 (w .text ++ replicate 10 0)
+
+-- the lent tables hold the word list
+pub record Tables (ws : List (List ℕ)) (ns ks : List ℕ) : Type 0 where
+  pub texts : ws ≡ map padded words
+  pub sizes : ns ≡ map (λ (w : Word). length (w .text)) words
+  pub types : ks ≡ map (λ (w : Word). w .kind) words
+
+abbrev pub wordAt : ℕ → Word
+wordAt i = getD words i (word [] 0)
+
+abbrev pub scan : ℕ → ℕ → ℕ → Scan
+scan a h n = record { at = a; held = h; count = n }
+
+abbrev pub plan : ℕ → ℕ → ℕ → ℕ → Scan → Plan
+plan at k p n s = record { adds = true; place = at; kind = k; pos = p; len = n; next = s }
+
+-- what a head adds: nothing; or a token at the end, after which no digit is held any more; or one before the held digits
+abbrev pub planOf : Head → Scan → Plan
+planOf head.Space s = record { adds = false; place = s .count; kind = 0; pos = 0; len = 0; next = scan (s .at + 1) (s .count) (s .count) }
+planOf (head.Sign k n) s = plan (s .count) k (signPos (s .at) n) 1 (scan (s .at + n) (s .count + 1) (s .count + 1))
+planOf (head.Word k n) s = plan (s .count) k (s .at) n (scan (s .at + n) (s .count + 1) (s .count + 1))
+planOf (head.Number k n) s = plan (s .held) k (s .at) n (scan (s .at + n) (s .held + 1) (s .count + 1))
+planOf head.Digit s = plan (s .held) illegal (s .at) 1 (scan (s .at + 1) (s .held) (s .count + 1))
+
+-- the tokens that stand in the arrays, but for the held digits, and those still to come
+abbrev pub whole : List ℕ → Scan → List Token → List Token
+whole text s R = take (s .held) R ++ lex 0 (slice (s .held) (s .count) R) (s .at) (drop (s .at) text)
+
+-- one token a byte at most, and the held digits are among them
+pub record Few (text : List ℕ) (s : Scan) : Type 0 where
+  pub among : s .held ≤ s .count
+  pub some : s .count ≤ s .at
+  pub within : s .at ≤ length text
+
+-- t came to stand at a place of the first n tokens, before what stood from there on
+pub record Inserted (t : Token) (place n : ℕ) (R R′ : List Token) : Type 0 where
+  pub list : take (n + 1) R′ ≡ take place R ++ (t ∷ slice place n R)
+  pub rest : drop (n + 1) R′ ≡ drop (n + 1) R
+
+-- a head was emitted: the plan was carried out, and what lies beyond the tokens is untouched
+pub record Emitted (h : Head) (s s′ : Scan) (R R′ : List Token) : Type 0 where
+  pub state : s′ ≡ planOf h s .next
+  pub none : planOf h s .adds ≡ false → R′ ≡ R
+  pub one : planOf h s .adds ≡ true → Inserted (token (planOf h s .kind) (planOf h s .pos) (planOf h s .len)) (planOf h s .place) (s .count) R R′
+
+-- the first n tokens are ts, and what lies beyond them is untouched
+pub record Written (ts : List Token) (n : ℕ) (R R′ : List Token) : Type 0 where
+  pub count : n ≡ length ts
+  pub list : take n R′ ≡ ts
+  pub rest : drop n R′ ≡ drop n R

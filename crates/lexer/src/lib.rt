@@ -1,0 +1,639 @@
+// From a text to its tokens: the word list, what stands at a place, and the walk over the text.
+ghost use mathlib.Core.List.{[], map};
+ghost use mathlib.Core.Path.{_≡_};
+ghost use Prim.Native.Nat.{_+_, _<_, _≤_};
+ghost use lib.ListN.{length, getD, drop};
+ghost use Rattle.token.specs.Token.{token as tokenOf, rows, Room};
+ghost use Rattle.utf8.specs.Utf8.{begins};
+ghost use Rattle.lexer.specs.Words.{words as wordList, better as betterOf, longest as longestOf};
+ghost use Rattle.lexer.specs.Lexer.{isLetter, isDigit, signOf, signHead, wordHead, elem, twoDigits, oneDigit, numberHead, digitAt, headBy, headOf, sizeOf, lex, tokensOf};
+ghost use Rattle.lexer.specs.State.{Tables, padded, wordAt, planOf, Inserted, Emitted, Written};
+ghost use Rattle.utf8.specs.declared.Found.the-variants as utf8;
+use utf8::Found;
+
+const ILLEGAL: u8 = 21;
+
+const EOF: u8 = 22;
+
+// The words of `from_string`, as rows of ten bytes, their lengths and the numbers of their types.
+pub const WORDS: [[u8; 10]; 55] = [
+    [66, 65, 83, 83, 0, 0, 0, 0, 0, 0],
+    [66, 97, 115, 115, 0, 0, 0, 0, 0, 0],
+    [98, 97, 115, 115, 0, 0, 0, 0, 0, 0],
+    [77, 65, 74, 0, 0, 0, 0, 0, 0, 0],
+    [77, 97, 106, 0, 0, 0, 0, 0, 0, 0],
+    [109, 97, 106, 0, 0, 0, 0, 0, 0, 0],
+    [77, 65, 74, 79, 82, 0, 0, 0, 0, 0],
+    [77, 97, 106, 111, 114, 0, 0, 0, 0, 0],
+    [109, 97, 106, 111, 114, 0, 0, 0, 0, 0],
+    [77, 65, 0, 0, 0, 0, 0, 0, 0, 0],
+    [77, 97, 0, 0, 0, 0, 0, 0, 0, 0],
+    [109, 97, 0, 0, 0, 0, 0, 0, 0, 0],
+    [77, 0, 0, 0, 0, 0, 0, 0, 0, 0],
+    [77, 73, 78, 0, 0, 0, 0, 0, 0, 0],
+    [77, 105, 110, 0, 0, 0, 0, 0, 0, 0],
+    [109, 105, 110, 0, 0, 0, 0, 0, 0, 0],
+    [77, 73, 78, 79, 82, 0, 0, 0, 0, 0],
+    [77, 105, 110, 111, 114, 0, 0, 0, 0, 0],
+    [109, 105, 110, 111, 114, 0, 0, 0, 0, 0],
+    [77, 73, 0, 0, 0, 0, 0, 0, 0, 0],
+    [77, 105, 0, 0, 0, 0, 0, 0, 0, 0],
+    [109, 105, 0, 0, 0, 0, 0, 0, 0, 0],
+    [109, 0, 0, 0, 0, 0, 0, 0, 0, 0],
+    [98, 0, 0, 0, 0, 0, 0, 0, 0, 0],
+    [83, 85, 83, 0, 0, 0, 0, 0, 0, 0],
+    [83, 117, 115, 0, 0, 0, 0, 0, 0, 0],
+    [115, 117, 115, 0, 0, 0, 0, 0, 0, 0],
+    [68, 73, 77, 0, 0, 0, 0, 0, 0, 0],
+    [68, 105, 109, 0, 0, 0, 0, 0, 0, 0],
+    [100, 105, 109, 0, 0, 0, 0, 0, 0, 0],
+    [100, 105, 109, 105, 110, 105, 115, 104, 101, 100],
+    [65, 76, 84, 0, 0, 0, 0, 0, 0, 0],
+    [65, 108, 116, 0, 0, 0, 0, 0, 0, 0],
+    [97, 108, 116, 0, 0, 0, 0, 0, 0, 0],
+    [65, 85, 71, 0, 0, 0, 0, 0, 0, 0],
+    [65, 117, 103, 0, 0, 0, 0, 0, 0, 0],
+    [97, 117, 103, 0, 0, 0, 0, 0, 0, 0],
+    [65, 68, 68, 0, 0, 0, 0, 0, 0, 0],
+    [65, 100, 100, 0, 0, 0, 0, 0, 0, 0],
+    [97, 100, 100, 0, 0, 0, 0, 0, 0, 0],
+    [79, 0, 0, 0, 0, 0, 0, 0, 0, 0],
+    [111, 0, 0, 0, 0, 0, 0, 0, 0, 0],
+    [79, 77, 73, 84, 0, 0, 0, 0, 0, 0],
+    [79, 109, 105, 116, 0, 0, 0, 0, 0, 0],
+    [111, 109, 105, 116, 0, 0, 0, 0, 0, 0],
+    [78, 79, 0, 0, 0, 0, 0, 0, 0, 0],
+    [78, 111, 0, 0, 0, 0, 0, 0, 0, 0],
+    [110, 111, 0, 0, 0, 0, 0, 0, 0, 0],
+    [65, 0, 0, 0, 0, 0, 0, 0, 0, 0],
+    [66, 0, 0, 0, 0, 0, 0, 0, 0, 0],
+    [67, 0, 0, 0, 0, 0, 0, 0, 0, 0],
+    [68, 0, 0, 0, 0, 0, 0, 0, 0, 0],
+    [69, 0, 0, 0, 0, 0, 0, 0, 0, 0],
+    [70, 0, 0, 0, 0, 0, 0, 0, 0, 0],
+    [71, 0, 0, 0, 0, 0, 0, 0, 0, 0],
+];
+
+pub const SIZES: [u8; 55] = [
+    4,
+    4,
+    4,
+    3,
+    3,
+    3,
+    5,
+    5,
+    5,
+    2,
+    2,
+    2,
+    1,
+    3,
+    3,
+    3,
+    5,
+    5,
+    5,
+    2,
+    2,
+    2,
+    1,
+    1,
+    3,
+    3,
+    3,
+    3,
+    3,
+    3,
+    10,
+    3,
+    3,
+    3,
+    3,
+    3,
+    3,
+    3,
+    3,
+    3,
+    1,
+    1,
+    4,
+    4,
+    4,
+    2,
+    2,
+    2,
+    1,
+    1,
+    1,
+    1,
+    1,
+    1,
+    1,
+];
+
+pub const TYPES: [u8; 55] = [
+    20,
+    20,
+    20,
+    14,
+    14,
+    14,
+    14,
+    14,
+    14,
+    14,
+    14,
+    14,
+    14,
+    12,
+    12,
+    12,
+    12,
+    12,
+    12,
+    12,
+    12,
+    12,
+    12,
+    2,
+    11,
+    11,
+    11,
+    4,
+    4,
+    4,
+    4,
+    10,
+    10,
+    10,
+    3,
+    3,
+    3,
+    8,
+    8,
+    8,
+    4,
+    4,
+    9,
+    9,
+    9,
+    9,
+    9,
+    9,
+    69,
+    70,
+    64,
+    65,
+    66,
+    67,
+    68,
+];
+
+// The longest word so far: its length, 0 for none, and the number of its type.
+pub struct Match {
+    pub len: usize,
+    pub kind: u8,
+}
+
+// What stands at a place of the text: a space; a sign, a word or a number with the number of its type and its bytes; a digit of no number.
+pub enum Head {
+    Space,
+    Sign(u8, usize),
+    Word(u8, usize),
+    Number(u8, usize),
+    Digit,
+}
+
+// The place in the text and the count of tokens; those from `held` on are the Illegal digits of a run that goes on.
+pub struct Scan {
+    pub at: usize,
+    pub held: usize,
+    pub count: usize,
+}
+
+// What a head adds: a token and its place, or none; and the state after it.
+pub struct Plan {
+    pub adds: bool,
+    pub place: usize,
+    pub kind: u8,
+    pub pos: u16,
+    pub len: u16,
+    pub next: Scan,
+}
+
+fn wide(n: u8) -> usize
+    ensures { λ r. ⌜ (r ≡ n) × (r < 256) ⌝ }
+{
+    n as usize
+}
+
+// The letter j of word i.
+fn letter(words: &[[u8; 10]; 55], i: usize, j: usize) -> u8
+    requires { ⌜ (i < 55) × (j < 10) ⌝ }
+    ensures { λ r. ⌜ r ≡ getD (getD (now (words .entry)) i []) j 0 ⌝ }
+{
+    words[i][j]
+}
+
+// Does word i, of n letters, stand at a place of the text?
+fn matches(words: &[[u8; 10]; 55], i: usize, n: usize, text: &[u8], at: usize) -> bool
+    requires { ⌜ (now words ≡ map padded wordList) × (i < 55) × (n ≡ length (wordAt i .text)) × (at ≤ length (now text)) ⌝ }
+    ensures { λ r. ⌜ r ≡ begins (wordAt i .text) (drop at (now (text .entry))) ⌝ }
+{
+    let mut j = 0;
+    while j < n {
+        let k = at + j;
+        if text.len() <= k {
+            return false;
+        }
+        if text[k] != letter(words, i, j) {
+            return false;
+        }
+        j += 1;
+    }
+    true
+}
+
+// Word i in place of m, where it stands at a place of the text and is longer.
+fn better(
+    words: &[[u8; 10]; 55],
+    sizes: &[u8; 55],
+    types: &[u8; 55],
+    text: &[u8],
+    at: usize,
+    i: usize,
+    m: Match,
+) -> Match
+    requires { ⌜ Tables (now words) (now sizes) (now types) × (i < 55) × (at ≤ length (now text)) ⌝ }
+    ensures { λ r. ⌜ r ≡ betterOf (drop at (now (text .entry))) (wordAt i) m ⌝ }
+{
+    let n = wide(sizes[i]);
+    if n <= m.len {
+        return m;
+    }
+    if matches(words, i, n, text, at) {
+        return Match {
+            len: n,
+            kind: types[i],
+        };
+    }
+    m
+}
+
+// The longest word that stands at a place of the text.
+fn longest(
+    words: &[[u8; 10]; 55],
+    sizes: &[u8; 55],
+    types: &[u8; 55],
+    text: &[u8],
+    at: usize,
+) -> Match
+    requires { ⌜ Tables (now words) (now sizes) (now types) × (at ≤ length (now text)) ⌝ }
+    ensures { λ r. ⌜ r ≡ longestOf (drop at (now (text .entry))) ⌝ }
+{
+    let mut m = Match {
+        len: 0,
+        kind: ILLEGAL,
+    };
+    let mut i = 0;
+    while i < 55 {
+        m = better(words, sizes, types, text, at, i, m);
+        i += 1;
+    }
+    m
+}
+
+fn is_letter(c: u32) -> bool
+    ensures { λ r. ⌜ r ≡ isLetter c ⌝ }
+{
+    if c < 65 {
+        return false;
+    }
+    if c <= 90 {
+        return true;
+    }
+    if c < 97 {
+        return false;
+    }
+    c <= 122
+}
+
+fn is_digit(c: u32) -> bool
+    ensures { λ r. ⌜ r ≡ isDigit c ⌝ }
+{
+    if c < 48 {
+        return false;
+    }
+    c <= 57
+}
+
+// The number of a sign's type, 0 for a character that is no sign.
+fn sign_of(c: u32) -> u8
+    ensures { λ r. ⌜ r ≡ signOf c ⌝ }
+{
+    match c {
+        0x23 => 1,
+        0x266F => 1,
+        0x266D => 2,
+        0x25B3 => 15,
+        0x5E => 15,
+        0x394 => 15,
+        0x2D => 13,
+        0xB0 => 4,
+        0xF8 => 6,
+        0x2F => 16,
+        0x2B => 3,
+        0x2C => 19,
+        0x28 => 17,
+        0x29 => 18,
+        _ => 0,
+    }
+}
+
+fn sign_head(c: u32, n: usize) -> Head
+    ensures { λ r. ⌜ r ≡ signHead c n ⌝ }
+{
+    let k = sign_of(c);
+    if k == 0 {
+        return Head::Word(ILLEGAL, n);
+    }
+    Head::Sign(k, n)
+}
+
+fn word_head(m: Match) -> Head
+    ensures { λ r. ⌜ r ≡ wordHead m ⌝ }
+{
+    let n = m.len;
+    if n == 0 {
+        return Head::Word(ILLEGAL, 1);
+    }
+    Head::Word(m.kind, n)
+}
+
+// The digit at a place of the text, 10 for none.
+fn digit_at(text: &[u8], at: usize) -> u8
+    ensures { λ r. ⌜ (r ≡ digitAt (now (text .entry)) at) × (r ≤ 10) ⌝ }
+{
+    if text.len() <= at {
+        return 10;
+    }
+    let b = text[at];
+    if b < 48 {
+        return 10;
+    }
+    if b <= 57 {
+        return b - 48;
+    }
+    10
+}
+
+// The numbers of two digits, and those of one.
+fn is_two(v: u8) -> bool
+    ensures { λ r. ⌜ r ≡ elem v twoDigits ⌝ }
+{
+    match v {
+        11 => true,
+        13 => true,
+        _ => false,
+    }
+}
+
+fn is_one(d: u8) -> bool
+    ensures { λ r. ⌜ r ≡ elem d oneDigit ⌝ }
+{
+    match d {
+        2 => true,
+        3 => true,
+        4 => true,
+        5 => true,
+        6 => true,
+        7 => true,
+        9 => true,
+        _ => false,
+    }
+}
+
+// The number that two digits begin with.
+fn number_head(d: u8, e: u8) -> Head
+    requires { ⌜ (d ≤ 10) × (e ≤ 10) ⌝ }
+    ensures { λ r. ⌜ r ≡ numberHead d e ⌝ }
+{
+    let v = 10 * d + e;
+    if is_two(v) {
+        return Head::Number(32 + v, 2);
+    }
+    if is_one(d) {
+        return Head::Number(32 + d, 1);
+    }
+    Head::Digit
+}
+
+// What the character c, of n bytes, begins at a place of the text.
+fn head_by(
+    words: &[[u8; 10]; 55],
+    sizes: &[u8; 55],
+    types: &[u8; 55],
+    text: &[u8],
+    at: usize,
+    c: u32,
+    n: usize,
+) -> Head
+    requires { ⌜ Tables (now words) (now sizes) (now types) × (at < length (now text)) ⌝ }
+    ensures { λ r. ⌜ r ≡ headBy (utf8.Char c n) (drop at (now (text .entry))) ⌝ }
+{
+    if is_letter(c) {
+        return word_head(longest(words, sizes, types, text, at));
+    }
+    if is_digit(c) {
+        return number_head(digit_at(text, at), digit_at(text, at + 1));
+    }
+    if c == 32 {
+        return Head::Space;
+    }
+    sign_head(c, n)
+}
+
+// What stands at a place of the text.
+fn head_at(
+    words: &[[u8; 10]; 55],
+    sizes: &[u8; 55],
+    types: &[u8; 55],
+    text: &[u8],
+    at: usize,
+) -> Head
+    requires { ⌜ Tables (now words) (now sizes) (now types) × (at < length (now text)) ⌝ }
+    ensures { λ r. ⌜ r ≡ headOf (drop at (now (text .entry))) ⌝ }
+{
+    match utf8::char_at(text, at) {
+        Found::Char(c, n) => head_by(words, sizes, types, text, at, c, n),
+        Found::Bad => Head::Word(ILLEGAL, 1),
+        Found::End => Head::Word(ILLEGAL, 1),
+    }
+}
+
+// What a head adds to the tokens.
+fn plan_for(h: Head, s: Scan) -> Plan
+    requires { ⌜ (s .at + sizeOf h ≤ 256) × (s .held ≤ s .count) × (s .count ≤ 256) ⌝ }
+    ensures { λ r. ⌜ r ≡ planOf h s ⌝ }
+{
+    let at = s.at;
+    let held = s.held;
+    let count = s.count;
+    match h {
+        Head::Space => Plan {
+            adds: false,
+            place: count,
+            kind: 0,
+            pos: 0,
+            len: 0,
+            next: Scan {
+                at: at + 1,
+                held: count,
+                count,
+            },
+        },
+        Head::Sign(k, n) => Plan {
+            adds: true,
+            place: count,
+            kind: k,
+            pos: (at + n) as u16,
+            len: 1,
+            next: Scan {
+                at: at + n,
+                held: count + 1,
+                count: count + 1,
+            },
+        },
+        Head::Word(k, n) => Plan {
+            adds: true,
+            place: count,
+            kind: k,
+            pos: at as u16,
+            len: n as u16,
+            next: Scan {
+                at: at + n,
+                held: count + 1,
+                count: count + 1,
+            },
+        },
+        Head::Number(k, n) => Plan {
+            adds: true,
+            place: held,
+            kind: k,
+            pos: at as u16,
+            len: n as u16,
+            next: Scan {
+                at: at + n,
+                held: held + 1,
+                count: count + 1,
+            },
+        },
+        Head::Digit => Plan {
+            adds: true,
+            place: held,
+            kind: ILLEGAL,
+            pos: at as u16,
+            len: 1,
+            next: Scan {
+                at: at + 1,
+                held,
+                count: count + 1,
+            },
+        },
+    }
+}
+
+// Puts a token at a place of n tokens, before those from there on.
+fn insert(
+    kinds: &mut [u8],
+    poss: &mut [u16],
+    lens: &mut [u16],
+    place: usize,
+    n: usize,
+    kind: u8,
+    pos: u16,
+    len: u16,
+)
+    requires { ⌜ (place ≤ n) × Room (n + 1) (now kinds) (now poss) (now lens) ⌝ }
+    ensures { λ _. ⌜ Inserted (tokenOf kind pos len) place n (rows (now (kinds .entry)) (now (poss .entry)) (now (lens .entry))) (rows (now (kinds .exit)) (now (poss .exit)) (now (lens .exit))) ⌝ }
+{
+    let mut j = n;
+    while place < j {
+        let i = j - 1;
+        token::copy(kinds, poss, lens, j, i);
+        j = i;
+    }
+    token::put(kinds, poss, lens, place, kind, pos, len);
+}
+
+// Adds what a head gives to the tokens.
+fn emit(kinds: &mut [u8], poss: &mut [u16], lens: &mut [u16], h: Head, s: Scan) -> Scan
+    requires { ⌜ (s .at + sizeOf h ≤ 256) × (s .held ≤ s .count) × (s .count ≤ 256) × Room (s .count + 1) (now kinds) (now poss) (now lens) ⌝ }
+    ensures { λ r. ⌜ Emitted h s r (rows (now (kinds .entry)) (now (poss .entry)) (now (lens .entry))) (rows (now (kinds .exit)) (now (poss .exit)) (now (lens .exit))) ⌝ }
+{
+    let p = plan_for(h, s);
+    let next = p.next;
+    if !p.adds {
+        return next;
+    }
+    insert(kinds, poss, lens, p.place, s.count, p.kind, p.pos, p.len);
+    next
+}
+
+// Writes the tokens of a text, its word list lent; their number is returned.
+fn scan_text(
+    words: &[[u8; 10]; 55],
+    sizes: &[u8; 55],
+    types: &[u8; 55],
+    text: &[u8],
+    kinds: &mut [u8],
+    poss: &mut [u16],
+    lens: &mut [u16],
+) -> usize
+    requires { ⌜ Tables (now words) (now sizes) (now types) × (length (now text) ≤ 256) × Room (length (now text)) (now kinds) (now poss) (now lens) ⌝ }
+    ensures { λ r. ⌜ Written (lex 0 [] 0 (now (text .entry))) r (rows (now (kinds .entry)) (now (poss .entry)) (now (lens .entry))) (rows (now (kinds .exit)) (now (poss .exit)) (now (lens .exit))) × (r ≤ length (now (text .entry))) ⌝ }
+{
+    let mut s = Scan {
+        at: 0,
+        held: 0,
+        count: 0,
+    };
+    while s.at < text.len() {
+        let at = s.at;
+        let h = head_at(words, sizes, types, text, at);
+        s = emit(kinds, poss, lens, h, s);
+    }
+    s.count
+}
+
+// The same, with End after them.
+fn scan_to_end(
+    words: &[[u8; 10]; 55],
+    sizes: &[u8; 55],
+    types: &[u8; 55],
+    text: &[u8],
+    kinds: &mut [u8],
+    poss: &mut [u16],
+    lens: &mut [u16],
+) -> usize
+    requires { ⌜ Tables (now words) (now sizes) (now types) × (length (now text) ≤ 256) × Room (length (now text) + 1) (now kinds) (now poss) (now lens) ⌝ }
+    ensures { λ r. ⌜ Written (tokensOf (now (text .entry))) r (rows (now (kinds .entry)) (now (poss .entry)) (now (lens .entry))) (rows (now (kinds .exit)) (now (poss .exit)) (now (lens .exit))) × (r ≤ length (now (text .entry)) + 1) ⌝ }
+{
+    let n = scan_text(words, sizes, types, text, kinds, poss, lens);
+    let end = text.len() + 1;
+    token::put(kinds, poss, lens, n, EOF, end as u16, 0);
+    n + 1
+}
+
+// Writes the tokens of a text of at most 256 bytes; their number is returned. What lies beyond them is untouched. The word list is named
+// here, once, and lent.
+pub fn scan_tokens(text: &[u8], kinds: &mut [u8], poss: &mut [u16], lens: &mut [u16]) -> usize
+    requires { ⌜ (length (now text) ≤ 256) × Room (length (now text) + 1) (now kinds) (now poss) (now lens) ⌝ }
+    ensures { λ r. ⌜ Written (tokensOf (now (text .entry))) r (rows (now (kinds .entry)) (now (poss .entry)) (now (lens .entry))) (rows (now (kinds .exit)) (now (poss .exit)) (now (lens .exit))) × (r ≤ length (now (text .entry)) + 1) ⌝ }
+{
+    let words = WORDS;
+    let sizes = SIZES;
+    let types = TYPES;
+    scan_to_end(&words, &sizes, &types, text, kinds, poss, lens)
+}
