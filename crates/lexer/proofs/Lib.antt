@@ -1,4 +1,5 @@
 mod Words
-mod Heads
+pub mod Heads
 mod Shifts
 mod Steps
+pub mod Ranges

@@ -5,8 +5,8 @@ use mathlib.Core.Path.{_≡_}
 use Prim.Native.Nat.{ℕ, _+_, _≤_}
 use lib.ListN.{length, take, drop, replicate, getD}
 use lib.Seq.{slice}
-use Rattle.token.specs.Token.{Token, token}
-use Rattle.lexer.specs.Lexer.{illegal, lex, signPos}
+use Rattle.token.specs.Token.{Token, token, Ranged}
+use Rattle.lexer.specs.Lexer.{illegal, lex, signPos, tokensOf}
 use Rattle.lexer.specs.Words.{Word, word, words}
 use Rattle.lexer.specs.declared.Head.the-variants as head
 use Rattle.lexer.specs.declared.Head.{Head}
@@ -66,3 +66,9 @@ pub record Written (ts : List Token) (n : ℕ) (R R′ : List Token) : Type 0 wh
   pub count : n ≡ length ts
   pub list : take n R′ ≡ ts
   pub rest : drop n R′ ≡ drop n R
+
+-- the tokens of a text are written, at most one for each byte and End, with positions and lengths within the text
+pub record Scanned (text : List ℕ) (n : ℕ) (R R′ : List Token) : Type 0 where
+  pub written : Written (tokensOf text) n R R′
+  pub few : n ≤ length text + 1
+  pub ranged : Ranged (length text + 1) (length text) (take n R′)

@@ -6,8 +6,8 @@ ghost use lib.ListN.{length, getD, drop};
 ghost use Rattle.token.specs.Token.{token as tokenOf, rows, Room};
 ghost use Rattle.utf8.specs.Utf8.{begins};
 ghost use Rattle.lexer.specs.Words.{words as wordList, better as betterOf, longest as longestOf};
-ghost use Rattle.lexer.specs.Lexer.{isLetter, isDigit, signOf, signHead, wordHead, elem, twoDigits, oneDigit, numberHead, digitAt, headBy, headOf, sizeOf, lex, tokensOf};
-ghost use Rattle.lexer.specs.State.{Tables, padded, wordAt, planOf, Inserted, Emitted, Written};
+ghost use Rattle.lexer.specs.Lexer.{isLetter, isDigit, signOf, signHead, wordHead, elem, twoDigits, oneDigit, numberHead, digitAt, headBy, headOf, sizeOf, lex};
+ghost use Rattle.lexer.specs.State.{Tables, padded, wordAt, planOf, Inserted, Emitted, Written, Scanned};
 ghost use Rattle.utf8.specs.declared.Found.the-variants as utf8;
 use utf8::Found;
 
@@ -618,7 +618,7 @@ fn scan_to_end(
     lens: &mut [u16],
 ) -> usize
     requires { ⌜ Tables (now words) (now sizes) (now types) × (length (now text) ≤ 256) × Room (length (now text) + 1) (now kinds) (now poss) (now lens) ⌝ }
-    ensures { λ r. ⌜ Written (tokensOf (now (text .entry))) r (rows (now (kinds .entry)) (now (poss .entry)) (now (lens .entry))) (rows (now (kinds .exit)) (now (poss .exit)) (now (lens .exit))) × (r ≤ length (now (text .entry)) + 1) ⌝ }
+    ensures { λ r. ⌜ Scanned (now (text .entry)) r (rows (now (kinds .entry)) (now (poss .entry)) (now (lens .entry))) (rows (now (kinds .exit)) (now (poss .exit)) (now (lens .exit))) ⌝ }
 {
     let n = scan_text(words, sizes, types, text, kinds, poss, lens);
     let end = text.len() + 1;
@@ -630,7 +630,7 @@ fn scan_to_end(
 // here, once, and lent.
 pub fn scan_tokens(text: &[u8], kinds: &mut [u8], poss: &mut [u16], lens: &mut [u16]) -> usize
     requires { ⌜ (length (now text) ≤ 256) × Room (length (now text) + 1) (now kinds) (now poss) (now lens) ⌝ }
-    ensures { λ r. ⌜ Written (tokensOf (now (text .entry))) r (rows (now (kinds .entry)) (now (poss .entry)) (now (lens .entry))) (rows (now (kinds .exit)) (now (poss .exit)) (now (lens .exit))) × (r ≤ length (now (text .entry)) + 1) ⌝ }
+    ensures { λ r. ⌜ Scanned (now (text .entry)) r (rows (now (kinds .entry)) (now (poss .entry)) (now (lens .entry))) (rows (now (kinds .exit)) (now (poss .exit)) (now (lens .exit))) ⌝ }
 {
     let words = WORDS;
     let sizes = SIZES;

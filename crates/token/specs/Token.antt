@@ -74,3 +74,8 @@ pub record Room (n : ℕ) (ks ps ls : List ℕ) : Type 0 where
 
 abbrev pub at : List Token → ℕ → Token
 at ts i = getD ts i (token 0 0 0)
+
+-- every token's position is at most p, and its length at most l
+abbrev pub Ranged : ℕ → ℕ → List Token → Type 0
+Ranged p l [] = Unit
+Ranged p l (t ∷ ts) = (t .pos ≤ p) × (t .len ≤ l) × Ranged p l ts

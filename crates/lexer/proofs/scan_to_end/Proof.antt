@@ -2,6 +2,7 @@
 -- Assumes nothing.
 use native.Mathlib.Omega.{arith}
 use borrow.Author.Needs.{needs}
+use Rattle.lexer.proofs.Ranges.{scanned}
 use Rattle.lexer.proofs.Steps.{written-more}
 use Rattle.lexer.proofs.scan_to_end.Statement.{statement}
 use Rattle.lexer.proofs.scan_to_end.Tie as tie
@@ -34,7 +35,7 @@ same-length-3 c = search needs
 returns : tie.Need-returns
 returns c =
     let w = c .before .before .before .before .before .before .before .before .before .before .before .before .before .before .before .before .scan-text .ensures in
-    (written-more _ (rows-room _ _ _ _ (omega arith)) (w .0) (c .before .before .before .before .before .before .put .ensures), omega (arith, w .1))
+    scanned (written-more _ (rows-room _ _ _ _ (omega arith)) (w .0) (c .before .before .before .before .before .before .put .ensures)) (omega (arith, w .1))
 
 pub scan-to-end-spec : {M : Type 1} → statement M
 scan-to-end-spec =
