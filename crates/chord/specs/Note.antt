@@ -1,8 +1,9 @@
 -- Notes: a letter and a modifier, and the numbers that the listing gives them.
 use mathlib.Core.List.{[], _∷_}
-use Prim.Native.Nat.{ℕ}
+use Prim.Native.Nat.{ℕ, _+_, _*_, _/_, _%_}
 use lib.IntN.{ℤ, pos, negsuc}
 use lib.ListN.{getD}
+use Rattle.chord.specs.declared.note.Note.{Note}
 use Rattle.chord.specs.declared.note.NoteLiteral.the-variants.{C, D, E, F, G, A, B}
 use Rattle.chord.specs.declared.note.NoteLiteral.{NoteLiteral}
 use Rattle.chord.specs.declared.note.RootModifier.the-variants.{Natural, Sharp, Flat}
@@ -27,3 +28,18 @@ abbrev pub alterationOf : RootModifier → ℤ
 alterationOf Natural = pos 0
 alterationOf Sharp = pos 1
 alterationOf Flat = negsuc 0
+
+-- a note as one number, where it stands in an array: three for each letter, and in these natural, sharp, flat
+abbrev pub modifierNumber : RootModifier → ℕ
+modifierNumber Natural = 0
+modifierNumber Sharp = 1
+modifierNumber Flat = 2
+
+abbrev pub modifierOf : ℕ → RootModifier
+modifierOf n = getD (Natural ∷ Sharp ∷ Flat ∷ []) n Natural
+
+abbrev pub noteNumber : Note → ℕ
+noteNumber n = 3 * letterNumber (n .literal) + modifierNumber (n .modifier)
+
+abbrev pub noteOf : ℕ → Note
+noteOf n = record { literal = letterOf (n / 3); modifier = modifierOf (n % 3) }

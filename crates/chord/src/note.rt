@@ -1,8 +1,9 @@
 // Notes: letter and modifier.
 ghost use mathlib.Core.Logic.{_↔_};
 ghost use mathlib.Core.Path.{_≡_};
+ghost use Prim.Native.Nat.{_<_};
 ghost use mathlib.Core.Bool.{true};
-ghost use Rattle.chord.specs.Note.{letterNumber, letterOf, alterationOf};
+ghost use Rattle.chord.specs.Note.{letterNumber, letterOf, alterationOf, modifierNumber, modifierOf, noteNumber, noteOf};
 
 pub enum NoteLiteral {
     C,
@@ -75,9 +76,48 @@ impl RootModifier {
             RootModifier::Flat => -1,
         }
     }
+
+    fn number(self) -> u8
+        ensures { λ r. ⌜ r ≡ modifierNumber self ⌝ }
+    {
+        match self {
+            RootModifier::Natural => 0,
+            RootModifier::Sharp => 1,
+            RootModifier::Flat => 2,
+        }
+    }
+
+    fn from_number(number: u8) -> RootModifier
+        ensures { λ r. ⌜ r ≡ modifierOf number ⌝ }
+    {
+        match number {
+            0 => RootModifier::Natural,
+            1 => RootModifier::Sharp,
+            2 => RootModifier::Flat,
+            _ => RootModifier::Natural,
+        }
+    }
 }
 
 impl Note {
+    // The note as a number below 21, and back.
+    pub fn number(self) -> u8
+        ensures { λ r. ⌜ (r ≡ noteNumber self) × (noteOf r ≡ self) × (r < 21) ⌝ }
+    {
+        let l = self.literal;
+        let m = self.modifier;
+        3 * l.number() + m.number()
+    }
+
+    pub fn from_number(number: u8) -> Note
+        ensures { λ r. ⌜ r ≡ noteOf number ⌝ }
+    {
+        Note {
+            literal: NoteLiteral::from_number(number / 3),
+            modifier: RootModifier::from_number(number % 3),
+        }
+    }
+
     pub(crate) fn same(self, other: Note) -> bool
         ensures { λ r. ⌜ ((r ≡ true) ↔ (self ≡ other)) ⌝ }
     {

@@ -7,7 +7,7 @@ ghost use Rattle.token.specs.Token.{token as tokenOf, rows, Room};
 ghost use Rattle.utf8.specs.Utf8.{begins};
 ghost use Rattle.lexer.specs.Words.{words as wordList, better as betterOf, longest as longestOf};
 ghost use Rattle.lexer.specs.Lexer.{isLetter, isDigit, signOf, signHead, wordHead, elem, twoDigits, oneDigit, numberHead, digitAt, headBy, headOf, sizeOf, lex};
-ghost use Rattle.lexer.specs.State.{Tables, padded, wordAt, planOf, Inserted, Emitted, Written, Scanned};
+ghost use Rattle.lexer.specs.State.{Tables, padded, wordAt, scan, plan, planOf, Inserted, Emitted, Written, Scanned};
 ghost use Rattle.utf8.specs.declared.Found.the-variants as utf8;
 use utf8::Found;
 
@@ -472,75 +472,48 @@ fn head_at(
     }
 }
 
-// What a head adds to the tokens.
+fn scan_at(at: usize, held: usize, count: usize) -> Scan
+    ensures { λ r. ⌜ r ≡ scan at held count ⌝ }
+{
+    Scan { at, held, count }
+}
+
+fn add_at(place: usize, kind: u8, pos: u16, len: u16, next: Scan) -> Plan
+    ensures { λ r. ⌜ r ≡ plan place kind pos len next ⌝ }
+{
+    Plan {
+        adds: true,
+        place,
+        kind,
+        pos,
+        len,
+        next,
+    }
+}
+
+// What a head adds to the tokens: a sign or a word comes last, after which no digit is held; a number or a digit of none comes before the
+// held digits.
 fn plan_for(h: Head, s: Scan) -> Plan
     requires { ⌜ (s .at + sizeOf h ≤ 256) × (s .held ≤ s .count) × (s .count ≤ 256) ⌝ }
     ensures { λ r. ⌜ r ≡ planOf h s ⌝ }
 {
     let at = s.at;
     let held = s.held;
-    let count = s.count;
+    let n = s.count;
+    let p = at as u16;
     match h {
         Head::Space => Plan {
             adds: false,
-            place: count,
+            place: n,
             kind: 0,
             pos: 0,
             len: 0,
-            next: Scan {
-                at: at + 1,
-                held: count,
-                count,
-            },
+            next: scan_at(at + 1, n, n),
         },
-        Head::Sign(k, n) => Plan {
-            adds: true,
-            place: count,
-            kind: k,
-            pos: (at + n) as u16,
-            len: 1,
-            next: Scan {
-                at: at + n,
-                held: count + 1,
-                count: count + 1,
-            },
-        },
-        Head::Word(k, n) => Plan {
-            adds: true,
-            place: count,
-            kind: k,
-            pos: at as u16,
-            len: n as u16,
-            next: Scan {
-                at: at + n,
-                held: count + 1,
-                count: count + 1,
-            },
-        },
-        Head::Number(k, n) => Plan {
-            adds: true,
-            place: held,
-            kind: k,
-            pos: at as u16,
-            len: n as u16,
-            next: Scan {
-                at: at + n,
-                held: held + 1,
-                count: count + 1,
-            },
-        },
-        Head::Digit => Plan {
-            adds: true,
-            place: held,
-            kind: ILLEGAL,
-            pos: at as u16,
-            len: 1,
-            next: Scan {
-                at: at + 1,
-                held,
-                count: count + 1,
-            },
-        },
+        Head::Sign(k, b) => add_at(n, k, (at + b) as u16, 1, scan_at(at + b, n + 1, n + 1)),
+        Head::Word(k, b) => add_at(n, k, p, b as u16, scan_at(at + b, n + 1, n + 1)),
+        Head::Number(k, b) => add_at(held, k, p, b as u16, scan_at(at + b, held + 1, n + 1)),
+        Head::Digit => add_at(held, ILLEGAL, p, 1, scan_at(at + 1, held, n + 1)),
     }
 }
 

@@ -8,7 +8,7 @@ use lib.ListN.{length, getD, drop}
 use Rattle.utf8.specs.declared.Found.the-variants.{Char, Bad, End}
 use Rattle.utf8.specs.declared.Found.{Found}
 
--- Section 3: characters are "encoded in sequences of 1 to 4 octets", from "the U+0000..U+10FFFF range", and the definition "prohibits
+-- Section 3: "characters from the U+0000..U+10FFFF range .. are encoded using sequences of 1 to 4 octets", and the definition "prohibits
 -- encoding character numbers between U+D800 and U+DFFF".
 unfoldable pub isScalar : ℕ → Bool
 isScalar c = ltb c 0xD800 || ltb 0xDFFF c && ltb c 0x110000
@@ -46,7 +46,7 @@ begins (x ∷ p) [] = false
 begins (x ∷ p) (y ∷ s) = eqb x y && begins p s
 
 -- Section 3, decoding: "Determine which bits encode the character number from the number of octets in the sequence and the second column
--- of the table (the bits marked x)."
+-- of the table above (the bits marked x)."
 unfoldable pub bits : List ℕ → ℕ
 bits s =
     cond (ltb (getD s 0 0) 0x80) (getD s 0 0)

@@ -1,6 +1,6 @@
 -- Each arm is the definition at that head.
 -- Assumes nothing.
-use mathlib.Core.Path.{sym, ap}
+use mathlib.Core.Path.{sym, ap, _∙_}
 use native.Mathlib.Omega.{arith}
 use borrow.Author.Needs.{needs}
 use Rattle.lexer.specs.Lexer.{sizeOf}
@@ -8,121 +8,149 @@ use Rattle.lexer.specs.State.{planOf}
 use Rattle.lexer.proofs.plan_for.Statement.{statement}
 use Rattle.lexer.proofs.plan_for.Tie as tie
 
+cast-p : tie.Need-cast-p
+cast-p c = search needs
+
 enum-told : tie.Need-enum-told
 enum-told c = search needs
 
-add-t13 : tie.Need-add-t13
-add-t13 c = search needs
+add-scan-at : tie.Need-add-scan-at
+add-scan-at c = search needs
+
+scan-at-requires : tie.Need-scan-at-requires
+scan-at-requires c κs = search needs
 
 enum-known-h : tie.Need-enum-known-h
 enum-known-h c = search needs
 
-add-t15 : tie.Need-add-t15
-add-t15 c = let e = ap sizeOf (c .before .h .given .1) in omega (arith, e, c .before .before .before .pre .0)
+add-add-at : tie.Need-add-add-at
+add-add-at c = let e = ap sizeOf (c .before .h .given .1) in omega (arith, e, c .before .before .before .pre .0)
 
-cast-t16 : tie.Need-cast-t16
-cast-t16 c = let e = ap sizeOf (c .before .h .given .1) in omega (arith, e, c .before .before .before .pre .0)
+cast-add-at : tie.Need-cast-add-at
+cast-add-at c = let e = ap sizeOf (c .before .h .given .1) in omega (arith, e, c .before .before .before .pre .0)
 
-add-t17 : tie.Need-add-t17
-add-t17 c = let e = ap sizeOf (c .before .h .given .1) in omega (arith, e, c .before .before .before .pre .0)
+add-scan-at-2 : tie.Need-add-scan-at-2
+add-scan-at-2 c = let e = ap sizeOf (c .before .h .given .1) in omega (arith, e, c .before .before .before .pre .0)
 
-add-t18 : tie.Need-add-t18
-add-t18 c = search needs
+add-scan-at-3 : tie.Need-add-scan-at-3
+add-scan-at-3 c = search needs
 
-add-t19 : tie.Need-add-t19
-add-t19 c = search needs
+add-scan-at-4 : tie.Need-add-scan-at-4
+add-scan-at-4 c = search needs
+
+scan-at-requires-2 : tie.Need-scan-at-requires-2
+scan-at-requires-2 c κs = search needs
+
+add-at-requires : tie.Need-add-at-requires
+add-at-requires c κs = search needs
 
 enum-known-h-2 : tie.Need-enum-known-h-2
 enum-known-h-2 c = search needs
 
-cast-t21 : tie.Need-cast-t21
-cast-t21 c = search needs
+cast-add-at-2 : tie.Need-cast-add-at-2
+cast-add-at-2 c = let e = ap sizeOf (c .before .h2 .given .1) in omega (arith, e, c .before .before .before .pre .0)
 
-cast-t22 : tie.Need-cast-t22
-cast-t22 c = let e = ap sizeOf (c .before .h2 .given .1) in omega (arith, e, c .before .before .before .pre .0)
+add-scan-at-5 : tie.Need-add-scan-at-5
+add-scan-at-5 c = let e = ap sizeOf (c .before .h2 .given .1) in omega (arith, e, c .before .before .before .pre .0)
 
-add-t23 : tie.Need-add-t23
-add-t23 c = let e = ap sizeOf (c .before .h2 .given .1) in omega (arith, e, c .before .before .before .pre .0)
+add-scan-at-6 : tie.Need-add-scan-at-6
+add-scan-at-6 c = search needs
 
-add-t24 : tie.Need-add-t24
-add-t24 c = search needs
+add-scan-at-7 : tie.Need-add-scan-at-7
+add-scan-at-7 c = search needs
 
-add-t25 : tie.Need-add-t25
-add-t25 c = search needs
+scan-at-requires-3 : tie.Need-scan-at-requires-3
+scan-at-requires-3 c κs = search needs
+
+add-at-requires-2 : tie.Need-add-at-requires-2
+add-at-requires-2 c κs = search needs
 
 enum-known-h-3 : tie.Need-enum-known-h-3
 enum-known-h-3 c = search needs
 
-cast-t27 : tie.Need-cast-t27
-cast-t27 c = search needs
+cast-add-at-3 : tie.Need-cast-add-at-3
+cast-add-at-3 c = let e = ap sizeOf (c .before .h3 .given .1) in omega (arith, e, c .before .before .before .pre .0)
 
-cast-t28 : tie.Need-cast-t28
-cast-t28 c = let e = ap sizeOf (c .before .h3 .given .1) in omega (arith, e, c .before .before .before .pre .0)
+add-scan-at-8 : tie.Need-add-scan-at-8
+add-scan-at-8 c = let e = ap sizeOf (c .before .h3 .given .1) in omega (arith, e, c .before .before .before .pre .0)
 
-add-t29 : tie.Need-add-t29
-add-t29 c = let e = ap sizeOf (c .before .h3 .given .1) in omega (arith, e, c .before .before .before .pre .0)
+add-scan-at-9 : tie.Need-add-scan-at-9
+add-scan-at-9 c = search needs
 
-add-t30 : tie.Need-add-t30
-add-t30 c = search needs
+add-scan-at-10 : tie.Need-add-scan-at-10
+add-scan-at-10 c = search needs
 
-add-t31 : tie.Need-add-t31
-add-t31 c = search needs
+scan-at-requires-4 : tie.Need-scan-at-requires-4
+scan-at-requires-4 c κs = search needs
+
+add-at-requires-3 : tie.Need-add-at-requires-3
+add-at-requires-3 c κs = search needs
 
 enum-told-2 : tie.Need-enum-told-2
 enum-told-2 c = search needs
 
-cast-t33 : tie.Need-cast-t33
-cast-t33 c = search needs
+add-scan-at-11 : tie.Need-add-scan-at-11
+add-scan-at-11 c = search needs
 
-add-t34 : tie.Need-add-t34
-add-t34 c = search needs
+add-scan-at-12 : tie.Need-add-scan-at-12
+add-scan-at-12 c = search needs
 
-add-t35 : tie.Need-add-t35
-add-t35 c = search needs
+scan-at-requires-5 : tie.Need-scan-at-requires-5
+scan-at-requires-5 c κs = search needs
+
+add-at-requires-4 : tie.Need-add-at-requires-4
+add-at-requires-4 c κs = search needs
 
 returns : tie.Need-returns
-returns c = ap (λ x. planOf x (c .before .before .args .s)) (sym (c .enum-told .given .1))
+returns c = rw (c .scan-at .ensures) (ap (λ x. planOf x (c .before .before .before .args .s)) (sym (c .before .enum-told .given .1)))
 
 returns-2 : tie.Need-returns-2
-returns-2 c = ap (λ x. planOf x (c .before .before .before .args .s)) (sym (c .before .h .given .1))
+returns-2 c = c .add-at .ensures ∙ rw (c .before .scan-at2 .ensures) (ap (λ x. planOf x (c .before .before .before .before .before .args .s)) (sym (c .before .before .before .h .given .1)))
 
 returns-3 : tie.Need-returns-3
-returns-3 c = ap (λ x. planOf x (c .before .before .before .args .s)) (sym (c .before .h2 .given .1))
+returns-3 c = c .add-at2 .ensures ∙ rw (c .before .scan-at3 .ensures) (ap (λ x. planOf x (c .before .before .before .before .before .args .s)) (sym (c .before .before .before .h2 .given .1)))
 
 returns-4 : tie.Need-returns-4
-returns-4 c = ap (λ x. planOf x (c .before .before .before .args .s)) (sym (c .before .h3 .given .1))
+returns-4 c = c .add-at3 .ensures ∙ rw (c .before .scan-at4 .ensures) (ap (λ x. planOf x (c .before .before .before .before .before .args .s)) (sym (c .before .before .before .h3 .given .1)))
 
 returns-5 : tie.Need-returns-5
-returns-5 c = ap (λ x. planOf x (c .before .before .args .s)) (sym (c .enum-told2 .given .1))
+returns-5 c = c .add-at4 .ensures ∙ rw (c .before .scan-at5 .ensures) (ap (λ x. planOf x (c .before .before .before .before .args .s)) (sym (c .before .before .enum-told2 .given .1)))
 
 pub plan-for-spec : {M : Type 1} → statement M
 plan-for-spec =
     tie.close
     (tie.spec
+    cast-p
     enum-told
-    add-t13
+    add-scan-at
+    scan-at-requires
     enum-known-h
-    add-t15
-    cast-t16
-    add-t17
-    add-t18
-    add-t19
+    add-add-at
+    cast-add-at
+    add-scan-at-2
+    add-scan-at-3
+    add-scan-at-4
+    scan-at-requires-2
+    add-at-requires
     enum-known-h-2
-    cast-t21
-    cast-t22
-    add-t23
-    add-t24
-    add-t25
+    cast-add-at-2
+    add-scan-at-5
+    add-scan-at-6
+    add-scan-at-7
+    scan-at-requires-3
+    add-at-requires-2
     enum-known-h-3
-    cast-t27
-    cast-t28
-    add-t29
-    add-t30
-    add-t31
+    cast-add-at-3
+    add-scan-at-8
+    add-scan-at-9
+    add-scan-at-10
+    scan-at-requires-4
+    add-at-requires-3
     enum-told-2
-    cast-t33
-    add-t34
-    add-t35
+    add-scan-at-11
+    add-scan-at-12
+    scan-at-requires-5
+    add-at-requires-4
     returns
     returns-2
     returns-3

@@ -1,0 +1,2 @@
+pub mod ParserError
+pub mod Expression

@@ -1,0 +1,3 @@
+// What the parser gives: expressions and errors.
+pub mod expression;
+pub mod parser_error;
