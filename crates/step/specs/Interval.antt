@@ -1,0 +1,25 @@
+-- The interval of a number by its sign (`from_modifier_extension`); 23 is none.
+use mathlib.Core.Bool.{cond}
+use mathlib.Core.List.{List, [], _∷_}
+use Prim.Native.Nat.{ℕ}
+use lib.Dec.{ltb}
+use lib.ListN.{getD}
+use Rattle.chord.specs.declared.note.RootModifier.the-variants.{Natural, Sharp, Flat}
+use Rattle.chord.specs.declared.note.RootModifier.{RootModifier}
+
+abbrev pub natural : List ℕ
+natural = 23 ∷ 0 ∷ 2 ∷ 4 ∷ 5 ∷ 8 ∷ 11 ∷ 13 ∷ 15 ∷ 17 ∷ 23 ∷ 19 ∷ 23 ∷ 22 ∷ []
+
+abbrev pub sharp : List ℕ
+sharp = 23 ∷ 23 ∷ 23 ∷ 23 ∷ 6 ∷ 9 ∷ 23 ∷ 23 ∷ 23 ∷ 18 ∷ 23 ∷ 20 ∷ 23 ∷ 23 ∷ []
+
+abbrev pub flat : List ℕ
+flat = 23 ∷ 23 ∷ 1 ∷ 3 ∷ 23 ∷ 7 ∷ 10 ∷ 13 ∷ 23 ∷ 16 ∷ 23 ∷ 23 ∷ 23 ∷ 21 ∷ []
+
+abbrev pub rowOf : RootModifier → List ℕ
+rowOf Natural = natural
+rowOf Sharp = sharp
+rowOf Flat = flat
+
+abbrev pub intervalOf : RootModifier → ℕ → ℕ
+intervalOf m n = cond (ltb n 14) (getD (rowOf m) n 0) 23

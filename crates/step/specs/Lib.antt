@@ -1,0 +1,5 @@
+pub mod Context
+pub mod Next
+pub mod Effect
+pub mod Interval
+pub mod Step

@@ -1,0 +1,189 @@
+-- From tokens to expressions: what one token does.
+use mathlib.Core.Bool.{Bool, cond, _&&_, _||_}
+use Prim.Native.Nat.{ℕ, _+_}
+use lib.Dec.{eqb}
+use lib.IntN.{pos, _+ℤ_, _-ℤ_}
+use lib.Signed.{ltZ}
+use Rattle.chord.specs.declared.note.Note.{Note}
+use Rattle.chord.specs.declared.note.OptionalNote.the-variants as optional
+use Rattle.chord.specs.declared.note.OptionalNote.{OptionalNote}
+use Rattle.chord.specs.declared.note.RootModifier.the-variants.{Natural, Sharp, Flat}
+use Rattle.chord.specs.declared.note.RootModifier.{RootModifier}
+use Rattle.expression.specs.declared.expression.Exp.the-variants.{Power, Bass, Maj, Maj7, Minor, HalfDim, Dim, Dim7, Alt, Aug, Sus, Extension, Add, Omit, SlashBass}
+use Rattle.expression.specs.declared.parser_error.ParserError.the-variants.{IllegalToken, UnexpectedNote, InvalidExtension, UnexpectedModifier, MissingAddTarget, IllegalOrMissingOmitTarget, IllegalSlashNotation, UnexpectedClosingParenthesis, MissingClosingParenthesis, NestedParenthesis}
+use Rattle.token.specs.declared.TokenType.the-variants as type
+use Rattle.token.specs.declared.TokenType.{TokenType}
+use Rattle.step.specs.Context.{isNone, memberOf, onComma, startGroup}
+use Rattle.step.specs.Effect.{counting, erring, failing, kept, pushing, pushing2, taking, within}
+use Rattle.step.specs.Interval.{intervalOf}
+use Rattle.step.specs.Next.{isEnd, isMaj7, isNumber, isSign, noteIn, numberIn, signIn}
+use Rattle.step.specs.declared.context.Context.the-variants as context
+use Rattle.step.specs.declared.context.Context.{Context}
+use Rattle.step.specs.declared.context.GroupKind.the-variants as group
+use Rattle.step.specs.declared.effect.Effect.{Effect}
+use Rattle.step.specs.declared.effect.Here.{Here}
+use Rattle.step.specs.declared.next.Ahead.{Ahead}
+use Rattle.step.specs.declared.next.Next.{Next}
+use Rattle.step.specs.declared.step.Bracket.the-variants.{Opens, Closes, Ends, Other}
+use Rattle.step.specs.declared.step.Bracket.{Bracket}
+
+-- an interval outside sus and active groups: the fourth is sus, #4 is not allowed
+abbrev pub intervalAlone : Here → ℕ → ℕ → Effect
+intervalAlone h i p = cond (eqb i 5) (pushing h (Sus 5)) (cond (eqb i 6) (failing h (InvalidExtension p)) (pushing h (Extension i p)))
+
+abbrev pub susAllows : ℕ → Bool
+susAllows i = eqb i 1 || (eqb i 2 || (eqb i 5 || eqb i 6))
+
+-- behind sus, an interval that it does not take leaves it the fourth
+abbrev pub intervalInSus : Here → ℕ → ℕ → Effect
+intervalInSus h i p = within context.None (cond (susAllows i) (pushing h (Sus i)) (pushing2 h (Sus 5) (Extension i p)))
+
+abbrev pub addInterval : Context → Here → ℕ → ℕ → Effect
+addInterval context.None h i p = intervalAlone h i p
+addInterval context.Sus h i p = intervalInSus h i p
+addInterval (context.Group g) h i p = cond (g .active) (pushing h (memberOf (g .kind) i p)) (intervalAlone h i p)
+
+-- the interval i at p; where there is none, kind 6 at q
+abbrev pub placed : Here → ℕ → ℕ → ℕ → Effect
+placed h i p q = cond (eqb i 23) (failing h (InvalidExtension q)) (addInterval (h .context) h i p)
+
+abbrev pub modifierStep : RootModifier → Here → Next → Effect
+modifierStep m h nx =
+    cond (isNumber nx) (taking 1 (placed h (intervalOf m (numberIn nx)) (h .pos) (h .pos + 1)))
+    (failing h (UnexpectedModifier (h .pos)))
+
+abbrev pub isPower : ℕ → Context → Bool
+isPower n c = eqb n 5 && isNone c
+
+abbrev pub numberStep : ℕ → Here → Effect
+numberStep n h = cond (isPower n (h .context)) (pushing h Power) (placed h (intervalOf Natural n) (h .pos) (h .pos))
+
+abbrev pub augStep : Here → Next → Effect
+augStep h nx = cond (eqb (numberIn nx) 5) (taking 1 (pushing h Aug)) (pushing h Aug)
+
+abbrev pub hyphenStep : Here → Next → Effect
+hyphenStep h nx = cond (eqb (numberIn nx) 5) (taking 1 (pushing h (Extension 7 (h .pos)))) (pushing h Minor)
+
+abbrev pub susStep : Here → Next → Effect
+susStep h nx = cond (isNumber nx || isSign nx) (within context.Sus (kept h)) (within context.None (pushing h (Sus 5)))
+
+abbrev pub omitTarget : Here → Next → Effect
+omitTarget h nx =
+    cond (eqb (numberIn nx) 5) (taking 1 (pushing h (Omit 8 (h .pos + h .len))))
+    (cond (eqb (numberIn nx) 3) (taking 1 (pushing h (Omit 4 (h .pos + h .len))))
+    (failing h (IllegalOrMissingOmitTarget (h .pos) (h .len))))
+
+abbrev pub omitStep : Here → Next → Effect
+omitStep h nx = within (startGroup (h .context) group.Omit (ltZ (pos 0) (h .count))) (omitTarget h nx)
+
+-- what an Add does with the token behind its sign m, where k tokens are taken before that one, which stands at q
+abbrev pub addTarget : ℕ → RootModifier → Here → Next → ℕ → Effect
+addTarget k m h nx q =
+    cond (isNumber nx)
+    (taking (k + 1) (cond (eqb (intervalOf m (numberIn nx)) 23) (failing h (InvalidExtension (h .pos))) (pushing h (Add (intervalOf m (numberIn nx)) q))))
+    (cond (isMaj7 nx) (taking (k + 1) (pushing h (Add 14 (h .pos + h .len))))
+    (taking k (failing h (MissingAddTarget (h .pos) (h .len)))))
+
+abbrev pub addSigned : Here → Ahead → Effect
+addSigned h a =
+    cond (isSign (a .first)) (addTarget 1 (signIn (a .first)) h (a .second) (a .pos2)) (addTarget 0 Natural h (a .first) (a .pos))
+
+abbrev pub addStep : Here → Ahead → Effect
+addStep h a = within (startGroup (h .context) group.Add (ltZ (pos 0) (h .count))) (addSigned h a)
+
+-- "A 9 whose last expression is the extension 6 adds a ninth"
+abbrev pub sixNine : Here → Next → Bool
+sixNine h nx = eqb (numberIn nx) 9 && h .six
+
+-- "After those two, a next token other than End gives kind 14 too and is still read."
+abbrev pub lastly : Here → Next → Effect → Effect
+lastly h nx e = cond (isEnd nx) e (erring (IllegalSlashNotation (h .pos)) e)
+
+abbrev pub bassStep : Note → Here → Ahead → Effect
+bassStep n h a =
+    cond (isSign (a .second)) (lastly h (a .third) (taking 2 (pushing h (SlashBass n)))) (lastly h (a .second) (taking 1 (pushing h (SlashBass n))))
+
+abbrev pub noteStep : OptionalNote → Here → Ahead → Effect
+noteStep (optional.Some n) h a = bassStep n h a
+noteStep optional.None h a = taking 1 (failing h (IllegalSlashNotation (h .pos)))
+
+-- "A slash always consumes the token after it. .. a note, with its sign, is the bass; anything else gives kind 14 at the slash."
+abbrev pub slashStep : Here → Ahead → Effect
+slashStep h a =
+    cond (sixNine h (a .first)) (lastly h (a .second) (taking 1 (pushing h (Add 17 (a .pos)))))
+    (noteStep (noteIn (a .first) (signIn (a .second))) h a)
+
+-- "an opening sign sets the state to none"
+abbrev pub openStep : Here → Effect
+openStep h = within context.None (counting (h .count +ℤ pos 1) (kept h))
+
+-- a closing sign of a bracket: "Closing a bracket does not end an Add or Omit group opened inside it"
+abbrev pub closed : Here → Effect
+closed h = counting (h .count -ℤ pos 1) (kept h)
+
+-- "A closing sign outside any bracket always gives kind 15 and lowers the count by one, below 0 if need be."
+abbrev pub closeStep : Here → Effect
+closeStep h = within context.None (erring (UnexpectedClosingParenthesis (h .pos)) (closed h))
+
+abbrev pub commaStep : Here → Effect
+commaStep h = within (onComma (h .context)) (kept h)
+
+-- what a token does outside any bracket
+abbrev pub stepOf : TokenType → Here → Ahead → Effect
+stepOf (type.Note l) h a = failing h (UnexpectedNote (h .pos))
+stepOf type.Sharp h a = modifierStep Sharp h (a .first)
+stepOf type.Flat h a = modifierStep Flat h (a .first)
+stepOf type.Aug h a = augStep h (a .first)
+stepOf type.Dim h a = pushing h Dim
+stepOf type.Dim7 h a = pushing h Dim7
+stepOf type.HalfDim h a = pushing h HalfDim
+stepOf (type.Extension n) h a = numberStep n h
+stepOf type.Add h a = addStep h a
+stepOf type.Omit h a = omitStep h (a .first)
+stepOf type.Alt h a = pushing h Alt
+stepOf type.Sus h a = susStep h (a .first)
+stepOf type.Minor h a = pushing h Minor
+stepOf type.Hyphen h a = hyphenStep h (a .first)
+stepOf type.Maj h a = pushing h Maj
+stepOf type.Maj7 h a = pushing h Maj7
+stepOf type.Slash h a = slashStep h a
+stepOf type.LParent h a = openStep h
+stepOf type.RParent h a = closeStep h
+stepOf type.Comma h a = commaStep h
+stepOf type.Bass h a = pushing h Bass
+stepOf type.Illegal h a = failing h (IllegalToken (h .pos))
+stepOf type.Eof h a = kept h
+
+-- what a token is to the bracket around it
+abbrev pub bracketKind : TokenType → Bracket
+bracketKind (type.Note l) = Other
+bracketKind type.Sharp = Other
+bracketKind type.Flat = Other
+bracketKind type.Aug = Other
+bracketKind type.Dim = Other
+bracketKind type.Dim7 = Other
+bracketKind type.HalfDim = Other
+bracketKind (type.Extension n) = Other
+bracketKind type.Add = Other
+bracketKind type.Omit = Other
+bracketKind type.Alt = Other
+bracketKind type.Sus = Other
+bracketKind type.Minor = Other
+bracketKind type.Hyphen = Other
+bracketKind type.Maj = Other
+bracketKind type.Maj7 = Other
+bracketKind type.Slash = Other
+bracketKind type.LParent = Opens
+bracketKind type.RParent = Closes
+bracketKind type.Comma = Other
+bracketKind type.Bass = Other
+bracketKind type.Illegal = Other
+bracketKind type.Eof = Ends
+
+-- and inside the bracket that was opened at q: "the innermost open bracket meets End and gives kind 16 at its own position"; "An inner
+-- bracket gives kind 17 at the outer one's position and is still read."
+abbrev pub insideOf : Bracket → ℕ → TokenType → Here → Ahead → Effect
+insideOf Closes q k h a = closed h
+insideOf Ends q k h a = failing h (MissingClosingParenthesis q)
+insideOf Opens q k h a = erring (NestedParenthesis q) (openStep h)
+insideOf Other q k h a = stepOf k h a

@@ -1,0 +1,401 @@
+// The token step: what each of the 23 types of tokens does, and what changes inside a bracket.
+ghost use mathlib.Core.Path.{_≡_};
+ghost use Prim.Native.Nat.{_+_, _<_};
+ghost use lib.Signed.{mag, ltZ};
+ghost use lib.IntN.{pos};
+ghost use Rattle.step.specs.Step.{intervalAlone, susAllows, intervalInSus, addInterval, placed, modifierStep, isPower, numberStep, augStep, hyphenStep, susStep, omitTarget, omitStep, addTarget, addSigned, addStep, sixNine, lastly, bassStep, slashStep, openStep, closed, closeStep, commaStep, stepOf, insideOf, bracketKind};
+use crate::context::Context;
+use crate::context::GroupKind;
+use crate::effect::Effect;
+use crate::effect::Gains;
+use crate::effect::Here;
+use crate::effect::OptionalError;
+use crate::effect::fail;
+use crate::effect::keep;
+use crate::effect::push;
+use crate::effect::push2;
+use crate::interval::from_modifier_extension;
+use crate::next::Ahead;
+use crate::next::Next;
+use chord::note::Note;
+use chord::note::OptionalNote;
+use chord::note::RootModifier;
+use expression::expression::Exp;
+use expression::parser_error::ParserError;
+use token::TokenType;
+
+// What a token is to the bracket around it.
+pub enum Bracket {
+    Opens,
+    Closes,
+    Ends,
+    Other,
+}
+
+pub fn bracket_kind(kind: TokenType) -> Bracket
+    ensures { λ r. ⌜ r ≡ bracketKind kind ⌝ }
+{
+    match kind {
+        TokenType::Note(_) => Bracket::Other,
+        TokenType::Sharp => Bracket::Other,
+        TokenType::Flat => Bracket::Other,
+        TokenType::Aug => Bracket::Other,
+        TokenType::Dim => Bracket::Other,
+        TokenType::Dim7 => Bracket::Other,
+        TokenType::HalfDim => Bracket::Other,
+        TokenType::Extension(_) => Bracket::Other,
+        TokenType::Add => Bracket::Other,
+        TokenType::Omit => Bracket::Other,
+        TokenType::Alt => Bracket::Other,
+        TokenType::Sus => Bracket::Other,
+        TokenType::Minor => Bracket::Other,
+        TokenType::Hyphen => Bracket::Other,
+        TokenType::Maj => Bracket::Other,
+        TokenType::Maj7 => Bracket::Other,
+        TokenType::Slash => Bracket::Other,
+        TokenType::LParent => Bracket::Opens,
+        TokenType::RParent => Bracket::Closes,
+        TokenType::Comma => Bracket::Other,
+        TokenType::Bass => Bracket::Other,
+        TokenType::Illegal => Bracket::Other,
+        TokenType::Eof => Bracket::Ends,
+    }
+}
+
+fn is_inside(h: Here) -> bool
+    ensures { λ r. ⌜ r ≡ ltZ (pos 0) (h .count) ⌝ }
+{
+    0 < h.count
+}
+
+// An interval outside sus and active groups: 4 is sus, #4 is not allowed.
+fn interval_alone(h: Here, interval: u8, pos: u16) -> Effect
+    ensures { λ r. ⌜ r ≡ intervalAlone h interval pos ⌝ }
+{
+    if interval == 5 {
+        return push(h, Exp::Sus(5));
+    }
+    if interval == 6 {
+        return fail(h, ParserError::InvalidExtension(pos));
+    }
+    push(h, Exp::Extension(interval, pos))
+}
+
+fn allowed_sus_interval(interval: u8) -> bool
+    ensures { λ r. ⌜ r ≡ susAllows interval ⌝ }
+{
+    if interval == 1 {
+        return true;
+    }
+    if interval == 2 {
+        return true;
+    }
+    if interval == 5 {
+        return true;
+    }
+    interval == 6
+}
+
+// Behind sus, an interval that it does not take leaves it the fourth.
+fn interval_in_sus(h: Here, interval: u8, pos: u16) -> Effect
+    ensures { λ r. ⌜ r ≡ intervalInSus h interval pos ⌝ }
+{
+    if allowed_sus_interval(interval) {
+        return push(h, Exp::Sus(interval)).set_context(Context::None);
+    }
+    push2(h, Exp::Sus(5), Exp::Extension(interval, pos)).set_context(Context::None)
+}
+
+fn add_interval(h: Here, interval: u8, pos: u16) -> Effect
+    ensures { λ r. ⌜ r ≡ addInterval (h .context) h interval pos ⌝ }
+{
+    let context = h.context;
+    match context {
+        Context::None => interval_alone(h, interval, pos),
+        Context::Sus => interval_in_sus(h, interval, pos),
+        Context::Group(g) => {
+            if g.active {
+                let kind = g.kind;
+                push(h, kind.member(interval, pos))
+            } else {
+                interval_alone(h, interval, pos)
+            }
+        }
+    }
+}
+
+// The interval, where there is one; else an error at `wrong`.
+fn place(h: Here, interval: u8, pos: u16, wrong: u16) -> Effect
+    ensures { λ r. ⌜ r ≡ placed h interval pos wrong ⌝ }
+{
+    if interval == 23 {
+        return fail(h, ParserError::InvalidExtension(wrong));
+    }
+    add_interval(h, interval, pos)
+}
+
+fn modifier(m: RootModifier, h: Here, next: Next) -> Effect
+    requires { ⌜ h .pos + 1 < 65536 ⌝ }
+    ensures { λ r. ⌜ r ≡ modifierStep m h next ⌝ }
+{
+    if next.is_extension() {
+        let interval = from_modifier_extension(m, next.number());
+        return place(h, interval, h.pos, h.pos + 1).take(1);
+    }
+    fail(h, ParserError::UnexpectedModifier(h.pos))
+}
+
+fn is_power(number: u8, context: Context) -> bool
+    ensures { λ r. ⌜ r ≡ isPower number context ⌝ }
+{
+    if number == 5 {
+        return context.is_none();
+    }
+    false
+}
+
+fn extension(number: u8, h: Here) -> Effect
+    ensures { λ r. ⌜ r ≡ numberStep number h ⌝ }
+{
+    let context = h.context;
+    if is_power(number, context) {
+        return push(h, Exp::Power);
+    }
+    place(
+        h,
+        from_modifier_extension(RootModifier::Natural, number),
+        h.pos,
+        h.pos,
+    )
+}
+
+fn aug(h: Here, next: Next) -> Effect
+    ensures { λ r. ⌜ r ≡ augStep h next ⌝ }
+{
+    if next.number() == 5 {
+        return push(h, Exp::Aug).take(1);
+    }
+    push(h, Exp::Aug)
+}
+
+fn hyphen(h: Here, next: Next) -> Effect
+    ensures { λ r. ⌜ r ≡ hyphenStep h next ⌝ }
+{
+    if next.number() == 5 {
+        return push(h, Exp::Extension(7, h.pos)).take(1);
+    }
+    push(h, Exp::Minor)
+}
+
+fn sus(h: Here, next: Next) -> Effect
+    ensures { λ r. ⌜ r ≡ susStep h next ⌝ }
+{
+    if next.is_extension() {
+        return keep(h).set_context(Context::Sus);
+    }
+    if next.is_sign() {
+        return keep(h).set_context(Context::Sus);
+    }
+    push(h, Exp::Sus(5)).set_context(Context::None)
+}
+
+fn omit_target(h: Here, next: Next) -> Effect
+    requires { ⌜ h .pos + h .len < 65536 ⌝ }
+    ensures { λ r. ⌜ r ≡ omitTarget h next ⌝ }
+{
+    let number = next.number();
+    if number == 5 {
+        return push(h, Exp::Omit(8, h.pos + h.len)).take(1);
+    }
+    if number == 3 {
+        return push(h, Exp::Omit(4, h.pos + h.len)).take(1);
+    }
+    fail(h, ParserError::IllegalOrMissingOmitTarget(h.pos, h.len))
+}
+
+fn omit(h: Here, next: Next) -> Effect
+    requires { ⌜ h .pos + h .len < 65536 ⌝ }
+    ensures { λ r. ⌜ r ≡ omitStep h next ⌝ }
+{
+    let context = h.context;
+    let group = context.start_group(GroupKind::Omit, is_inside(h));
+    omit_target(h, next).set_context(group)
+}
+
+// What an Add does with the token behind its sign m, the k-th behind it, at `at`.
+fn add_target(k: usize, m: RootModifier, h: Here, next: Next, at: u16) -> Effect
+    requires { ⌜ (h .pos + h .len < 65536) × (k < 1000) ⌝ }
+    ensures { λ r. ⌜ r ≡ addTarget k m h next at ⌝ }
+{
+    if next.is_extension() {
+        let interval = from_modifier_extension(m, next.number());
+        if interval == 23 {
+            return fail(h, ParserError::InvalidExtension(h.pos)).take(k + 1);
+        }
+        return push(h, Exp::Add(interval, at)).take(k + 1);
+    }
+    if next.is_maj7() {
+        return push(h, Exp::Add(14, h.pos + h.len)).take(k + 1);
+    }
+    fail(h, ParserError::MissingAddTarget(h.pos, h.len)).take(k)
+}
+
+fn add_signed(h: Here, a: Ahead) -> Effect
+    requires { ⌜ h .pos + h .len < 65536 ⌝ }
+    ensures { λ r. ⌜ r ≡ addSigned h a ⌝ }
+{
+    let first = a.first;
+    let second = a.second;
+    if first.is_sign() {
+        return add_target(1, first.sign(), h, second, a.pos2);
+    }
+    add_target(0, RootModifier::Natural, h, first, a.pos)
+}
+
+fn add(h: Here, a: Ahead) -> Effect
+    requires { ⌜ h .pos + h .len < 65536 ⌝ }
+    ensures { λ r. ⌜ r ≡ addStep h a ⌝ }
+{
+    let context = h.context;
+    let group = context.start_group(GroupKind::Add, is_inside(h));
+    add_signed(h, a).set_context(group)
+}
+
+// A 9 behind a slash whose last expression is the extension 6.
+fn is_six_nine(h: Here, next: Next) -> bool
+    ensures { λ r. ⌜ r ≡ sixNine h next ⌝ }
+{
+    if next.number() == 9 {
+        return h.six;
+    }
+    false
+}
+
+// After 6/9 or a bass only End may come.
+fn last(h: Here, next: Next, e: Effect) -> Effect
+    ensures { λ r. ⌜ r ≡ lastly h next e ⌝ }
+{
+    if next.is_eof() {
+        return e;
+    }
+    e.set_error(ParserError::IllegalSlashNotation(h.pos))
+}
+
+fn bass(note: Note, h: Here, a: Ahead) -> Effect
+    ensures { λ r. ⌜ r ≡ bassStep note h a ⌝ }
+{
+    let second = a.second;
+    let third = a.third;
+    if second.is_sign() {
+        return last(h, third, push(h, Exp::SlashBass(note)).take(2));
+    }
+    last(h, second, push(h, Exp::SlashBass(note)).take(1))
+}
+
+// A slash always takes the token behind it.
+fn slash(h: Here, a: Ahead) -> Effect
+    ensures { λ r. ⌜ r ≡ slashStep h a ⌝ }
+{
+    let first = a.first;
+    let second = a.second;
+    if is_six_nine(h, first) {
+        return last(h, second, push(h, Exp::Add(17, a.pos)).take(1));
+    }
+    match first.note(second.sign()) {
+        OptionalNote::Some(note) => bass(note, h, a),
+        OptionalNote::None => fail(h, ParserError::IllegalSlashNotation(h.pos)).take(1),
+    }
+}
+
+// An opening sign sets the state to none.
+fn lparen(h: Here) -> Effect
+    requires { ⌜ mag (h .count) < 1000 ⌝ }
+    ensures { λ r. ⌜ r ≡ openStep h ⌝ }
+{
+    Effect {
+        taken: 0,
+        count: h.count + 1,
+        context: Context::None,
+        gains: Gains::None,
+        error: OptionalError::None,
+    }
+}
+
+// A closing sign of a bracket only lowers the count.
+fn close(h: Here) -> Effect
+    requires { ⌜ mag (h .count) < 1000 ⌝ }
+    ensures { λ r. ⌜ r ≡ closed h ⌝ }
+{
+    let context = h.context;
+    Effect {
+        taken: 0,
+        count: h.count - 1,
+        context,
+        gains: Gains::None,
+        error: OptionalError::None,
+    }
+}
+
+// A closing sign outside any bracket.
+fn rparen(h: Here) -> Effect
+    requires { ⌜ mag (h .count) < 1000 ⌝ }
+    ensures { λ r. ⌜ r ≡ closeStep h ⌝ }
+{
+    close(h)
+        .set_error(ParserError::UnexpectedClosingParenthesis(h.pos))
+        .set_context(Context::None)
+}
+
+fn comma(h: Here) -> Effect
+    ensures { λ r. ⌜ r ≡ commaStep h ⌝ }
+{
+    let context = h.context;
+    let after = context.on_comma();
+    keep(h).set_context(after)
+}
+
+// What a token does outside any bracket.
+pub fn process_token(kind: TokenType, h: Here, a: Ahead) -> Effect
+    requires { ⌜ (h .pos + h .len < 65535) × (mag (h .count) < 1000) ⌝ }
+    ensures { λ r. ⌜ r ≡ stepOf kind h a ⌝ }
+{
+    let next = a.first;
+    match kind {
+        TokenType::Note(_) => fail(h, ParserError::UnexpectedNote(h.pos)),
+        TokenType::Sharp => modifier(RootModifier::Sharp, h, next),
+        TokenType::Flat => modifier(RootModifier::Flat, h, next),
+        TokenType::Aug => aug(h, next),
+        TokenType::Dim => push(h, Exp::Dim),
+        TokenType::Dim7 => push(h, Exp::Dim7),
+        TokenType::HalfDim => push(h, Exp::HalfDim),
+        TokenType::Extension(n) => extension(n, h),
+        TokenType::Add => add(h, a),
+        TokenType::Omit => omit(h, next),
+        TokenType::Alt => push(h, Exp::Alt),
+        TokenType::Sus => sus(h, next),
+        TokenType::Minor => push(h, Exp::Minor),
+        TokenType::Hyphen => hyphen(h, next),
+        TokenType::Maj => push(h, Exp::Maj),
+        TokenType::Maj7 => push(h, Exp::Maj7),
+        TokenType::Slash => slash(h, a),
+        TokenType::LParent => lparen(h),
+        TokenType::RParent => rparen(h),
+        TokenType::Comma => comma(h),
+        TokenType::Bass => push(h, Exp::Bass),
+        TokenType::Illegal => fail(h, ParserError::IllegalToken(h.pos)),
+        TokenType::Eof => keep(h),
+    }
+}
+
+// What a token does inside the bracket that was opened at `pos`.
+pub fn process_inside(pos: u16, kind: TokenType, h: Here, a: Ahead) -> Effect
+    requires { ⌜ (h .pos + h .len < 65535) × (mag (h .count) < 1000) ⌝ }
+    ensures { λ r. ⌜ r ≡ insideOf (bracketKind kind) pos kind h a ⌝ }
+{
+    match bracket_kind(kind) {
+        Bracket::Closes => close(h),
+        Bracket::Ends => fail(h, ParserError::MissingClosingParenthesis(pos)),
+        Bracket::Opens => lparen(h).set_error(ParserError::NestedParenthesis(pos)),
+        Bracket::Other => process_token(kind, h, a),
+    }
+}
