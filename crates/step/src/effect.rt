@@ -1,6 +1,7 @@
 // The effect of a token: how many tokens behind it are taken with it, the state after it, and what is added to the two lists.
 ghost use mathlib.Core.Path.{_≡_};
 ghost use Rattle.step.specs.Effect.{kept, pushing, pushing2, failing, taking, within, erring};
+ghost use Rattle.step.specs.declared.context.Context.the-variants.{None};
 use crate::context::Context;
 use expression::expression::Exp;
 use expression::parser_error::ParserError;
@@ -46,12 +47,25 @@ pub(crate) fn keep(h: Here) -> Effect
     }
 }
 
-pub(crate) fn push(h: Here, e: Exp) -> Effect
-    ensures { λ r. ⌜ r ≡ pushing h e ⌝ }
+pub(crate) fn enter(h: Here, context: Context) -> Effect
+    ensures { λ r. ⌜ r ≡ within context (kept h) ⌝ }
+{
+    Effect {
+        taken: 0,
+        count: h.count,
+        context,
+        gains: Gains::None,
+        error: OptionalError::None,
+    }
+}
+
+// An expression, for which so many tokens behind are taken too.
+pub(crate) fn push(h: Here, e: Exp, taken: usize) -> Effect
+    ensures { λ r. ⌜ r ≡ taking taken (pushing h e) ⌝ }
 {
     let context = h.context;
     Effect {
-        taken: 0,
+        taken,
         count: h.count,
         context,
         gains: Gains::One(e),
@@ -59,25 +73,38 @@ pub(crate) fn push(h: Here, e: Exp) -> Effect
     }
 }
 
-pub(crate) fn push2(h: Here, e: Exp, f: Exp) -> Effect
-    ensures { λ r. ⌜ r ≡ pushing2 h e f ⌝ }
+// An expression that ends sus.
+pub(crate) fn push_free(h: Here, e: Exp) -> Effect
+    ensures { λ r. ⌜ r ≡ within None (pushing h e) ⌝ }
 {
-    let context = h.context;
     Effect {
         taken: 0,
         count: h.count,
-        context,
+        context: Context::None,
+        gains: Gains::One(e),
+        error: OptionalError::None,
+    }
+}
+
+// Two of them.
+pub(crate) fn push_free2(h: Here, e: Exp, f: Exp) -> Effect
+    ensures { λ r. ⌜ r ≡ within None (pushing2 h e f) ⌝ }
+{
+    Effect {
+        taken: 0,
+        count: h.count,
+        context: Context::None,
         gains: Gains::Two(e, f),
         error: OptionalError::None,
     }
 }
 
-pub(crate) fn fail(h: Here, e: ParserError) -> Effect
-    ensures { λ r. ⌜ r ≡ failing h e ⌝ }
+pub(crate) fn fail(h: Here, e: ParserError, taken: usize) -> Effect
+    ensures { λ r. ⌜ r ≡ taking taken (failing h e) ⌝ }
 {
     let context = h.context;
     Effect {
-        taken: 0,
+        taken,
         count: h.count,
         context,
         gains: Gains::None,

@@ -3,6 +3,7 @@ ghost use mathlib.Core.Path.{_≡_};
 ghost use Prim.Native.Nat.{_+_, _<_};
 ghost use lib.Signed.{mag, ltZ};
 ghost use lib.IntN.{pos};
+ghost use Rattle.step.specs.Effect.{pushing, taking};
 ghost use Rattle.step.specs.Step.{intervalAlone, susAllows, intervalInSus, addInterval, placed, modifierStep, isPower, numberStep, augStep, hyphenStep, susStep, omitTarget, omitStep, addTarget, addSigned, addStep, sixNine, lastly, bassStep, slashStep, openStep, closed, closeStep, commaStep, stepOf, insideOf, bracketKind};
 use crate::context::Context;
 use crate::context::GroupKind;
@@ -10,10 +11,12 @@ use crate::effect::Effect;
 use crate::effect::Gains;
 use crate::effect::Here;
 use crate::effect::OptionalError;
+use crate::effect::enter;
 use crate::effect::fail;
 use crate::effect::keep;
 use crate::effect::push;
-use crate::effect::push2;
+use crate::effect::push_free;
+use crate::effect::push_free2;
 use crate::interval::from_modifier_extension;
 use crate::next::Ahead;
 use crate::next::Next;
@@ -36,29 +39,10 @@ pub fn bracket_kind(kind: TokenType) -> Bracket
     ensures { λ r. ⌜ r ≡ bracketKind kind ⌝ }
 {
     match kind {
-        TokenType::Note(_) => Bracket::Other,
-        TokenType::Sharp => Bracket::Other,
-        TokenType::Flat => Bracket::Other,
-        TokenType::Aug => Bracket::Other,
-        TokenType::Dim => Bracket::Other,
-        TokenType::Dim7 => Bracket::Other,
-        TokenType::HalfDim => Bracket::Other,
-        TokenType::Extension(_) => Bracket::Other,
-        TokenType::Add => Bracket::Other,
-        TokenType::Omit => Bracket::Other,
-        TokenType::Alt => Bracket::Other,
-        TokenType::Sus => Bracket::Other,
-        TokenType::Minor => Bracket::Other,
-        TokenType::Hyphen => Bracket::Other,
-        TokenType::Maj => Bracket::Other,
-        TokenType::Maj7 => Bracket::Other,
-        TokenType::Slash => Bracket::Other,
         TokenType::LParent => Bracket::Opens,
         TokenType::RParent => Bracket::Closes,
-        TokenType::Comma => Bracket::Other,
-        TokenType::Bass => Bracket::Other,
-        TokenType::Illegal => Bracket::Other,
         TokenType::Eof => Bracket::Ends,
+        _ => Bracket::Other,
     }
 }
 
@@ -73,12 +57,12 @@ fn interval_alone(h: Here, interval: u8, pos: u16) -> Effect
     ensures { λ r. ⌜ r ≡ intervalAlone h interval pos ⌝ }
 {
     if interval == 5 {
-        return push(h, Exp::Sus(5));
+        return push(h, Exp::Sus(5), 0);
     }
     if interval == 6 {
-        return fail(h, ParserError::InvalidExtension(pos));
+        return fail(h, ParserError::InvalidExtension(pos), 0);
     }
-    push(h, Exp::Extension(interval, pos))
+    push(h, Exp::Extension(interval, pos), 0)
 }
 
 fn allowed_sus_interval(interval: u8) -> bool
@@ -101,9 +85,9 @@ fn interval_in_sus(h: Here, interval: u8, pos: u16) -> Effect
     ensures { λ r. ⌜ r ≡ intervalInSus h interval pos ⌝ }
 {
     if allowed_sus_interval(interval) {
-        return push(h, Exp::Sus(interval)).set_context(Context::None);
+        return push_free(h, Exp::Sus(interval));
     }
-    push2(h, Exp::Sus(5), Exp::Extension(interval, pos)).set_context(Context::None)
+    push_free2(h, Exp::Sus(5), Exp::Extension(interval, pos))
 }
 
 fn add_interval(h: Here, interval: u8, pos: u16) -> Effect
@@ -116,7 +100,7 @@ fn add_interval(h: Here, interval: u8, pos: u16) -> Effect
         Context::Group(g) => {
             if g.active {
                 let kind = g.kind;
-                push(h, kind.member(interval, pos))
+                push(h, kind.member(interval, pos), 0)
             } else {
                 interval_alone(h, interval, pos)
             }
@@ -129,7 +113,7 @@ fn place(h: Here, interval: u8, pos: u16, wrong: u16) -> Effect
     ensures { λ r. ⌜ r ≡ placed h interval pos wrong ⌝ }
 {
     if interval == 23 {
-        return fail(h, ParserError::InvalidExtension(wrong));
+        return fail(h, ParserError::InvalidExtension(wrong), 0);
     }
     add_interval(h, interval, pos)
 }
@@ -142,7 +126,7 @@ fn modifier(m: RootModifier, h: Here, next: Next) -> Effect
         let interval = from_modifier_extension(m, next.number());
         return place(h, interval, h.pos, h.pos + 1).take(1);
     }
-    fail(h, ParserError::UnexpectedModifier(h.pos))
+    fail(h, ParserError::UnexpectedModifier(h.pos), 0)
 }
 
 fn is_power(number: u8, context: Context) -> bool
@@ -159,7 +143,7 @@ fn extension(number: u8, h: Here) -> Effect
 {
     let context = h.context;
     if is_power(number, context) {
-        return push(h, Exp::Power);
+        return push(h, Exp::Power, 0);
     }
     place(
         h,
@@ -173,30 +157,30 @@ fn aug(h: Here, next: Next) -> Effect
     ensures { λ r. ⌜ r ≡ augStep h next ⌝ }
 {
     if next.number() == 5 {
-        return push(h, Exp::Aug).take(1);
+        return push(h, Exp::Aug, 1);
     }
-    push(h, Exp::Aug)
+    push(h, Exp::Aug, 0)
 }
 
 fn hyphen(h: Here, next: Next) -> Effect
     ensures { λ r. ⌜ r ≡ hyphenStep h next ⌝ }
 {
     if next.number() == 5 {
-        return push(h, Exp::Extension(7, h.pos)).take(1);
+        return push(h, Exp::Extension(7, h.pos), 1);
     }
-    push(h, Exp::Minor)
+    push(h, Exp::Minor, 0)
 }
 
 fn sus(h: Here, next: Next) -> Effect
     ensures { λ r. ⌜ r ≡ susStep h next ⌝ }
 {
     if next.is_extension() {
-        return keep(h).set_context(Context::Sus);
+        return enter(h, Context::Sus);
     }
     if next.is_sign() {
-        return keep(h).set_context(Context::Sus);
+        return enter(h, Context::Sus);
     }
-    push(h, Exp::Sus(5)).set_context(Context::None)
+    push_free(h, Exp::Sus(5))
 }
 
 fn omit_target(h: Here, next: Next) -> Effect
@@ -205,12 +189,12 @@ fn omit_target(h: Here, next: Next) -> Effect
 {
     let number = next.number();
     if number == 5 {
-        return push(h, Exp::Omit(8, h.pos + h.len)).take(1);
+        return push(h, Exp::Omit(8, h.pos + h.len), 1);
     }
     if number == 3 {
-        return push(h, Exp::Omit(4, h.pos + h.len)).take(1);
+        return push(h, Exp::Omit(4, h.pos + h.len), 1);
     }
-    fail(h, ParserError::IllegalOrMissingOmitTarget(h.pos, h.len))
+    fail(h, ParserError::IllegalOrMissingOmitTarget(h.pos, h.len), 0)
 }
 
 fn omit(h: Here, next: Next) -> Effect
@@ -230,14 +214,14 @@ fn add_target(k: usize, m: RootModifier, h: Here, next: Next, at: u16) -> Effect
     if next.is_extension() {
         let interval = from_modifier_extension(m, next.number());
         if interval == 23 {
-            return fail(h, ParserError::InvalidExtension(h.pos)).take(k + 1);
+            return fail(h, ParserError::InvalidExtension(h.pos), k + 1);
         }
-        return push(h, Exp::Add(interval, at)).take(k + 1);
+        return push(h, Exp::Add(interval, at), k + 1);
     }
     if next.is_maj7() {
-        return push(h, Exp::Add(14, h.pos + h.len)).take(k + 1);
+        return push(h, Exp::Add(14, h.pos + h.len), k + 1);
     }
-    fail(h, ParserError::MissingAddTarget(h.pos, h.len)).take(k)
+    fail(h, ParserError::MissingAddTarget(h.pos, h.len), k)
 }
 
 fn add_signed(h: Here, a: Ahead) -> Effect
@@ -272,13 +256,14 @@ fn is_six_nine(h: Here, next: Next) -> bool
 }
 
 // After 6/9 or a bass only End may come.
-fn last(h: Here, next: Next, e: Effect) -> Effect
-    ensures { λ r. ⌜ r ≡ lastly h next e ⌝ }
+fn last(h: Here, next: Next, e: Exp, taken: usize) -> Effect
+    ensures { λ r. ⌜ r ≡ lastly h next (taking taken (pushing h e)) ⌝ }
 {
+    let after = push(h, e, taken);
     if next.is_eof() {
-        return e;
+        return after;
     }
-    e.set_error(ParserError::IllegalSlashNotation(h.pos))
+    after.set_error(ParserError::IllegalSlashNotation(h.pos))
 }
 
 fn bass(note: Note, h: Here, a: Ahead) -> Effect
@@ -287,9 +272,9 @@ fn bass(note: Note, h: Here, a: Ahead) -> Effect
     let second = a.second;
     let third = a.third;
     if second.is_sign() {
-        return last(h, third, push(h, Exp::SlashBass(note)).take(2));
+        return last(h, third, Exp::SlashBass(note), 2);
     }
-    last(h, second, push(h, Exp::SlashBass(note)).take(1))
+    last(h, second, Exp::SlashBass(note), 1)
 }
 
 // A slash always takes the token behind it.
@@ -299,11 +284,11 @@ fn slash(h: Here, a: Ahead) -> Effect
     let first = a.first;
     let second = a.second;
     if is_six_nine(h, first) {
-        return last(h, second, push(h, Exp::Add(17, a.pos)).take(1));
+        return last(h, second, Exp::Add(17, a.pos), 1);
     }
     match first.note(second.sign()) {
         OptionalNote::Some(note) => bass(note, h, a),
-        OptionalNote::None => fail(h, ParserError::IllegalSlashNotation(h.pos)).take(1),
+        OptionalNote::None => fail(h, ParserError::IllegalSlashNotation(h.pos), 1),
     }
 }
 
@@ -350,8 +335,7 @@ fn comma(h: Here) -> Effect
     ensures { λ r. ⌜ r ≡ commaStep h ⌝ }
 {
     let context = h.context;
-    let after = context.on_comma();
-    keep(h).set_context(after)
+    enter(h, context.on_comma())
 }
 
 // What a token does outside any bracket.
@@ -361,28 +345,28 @@ pub fn process_token(kind: TokenType, h: Here, a: Ahead) -> Effect
 {
     let next = a.first;
     match kind {
-        TokenType::Note(_) => fail(h, ParserError::UnexpectedNote(h.pos)),
+        TokenType::Note(_) => fail(h, ParserError::UnexpectedNote(h.pos), 0),
         TokenType::Sharp => modifier(RootModifier::Sharp, h, next),
         TokenType::Flat => modifier(RootModifier::Flat, h, next),
         TokenType::Aug => aug(h, next),
-        TokenType::Dim => push(h, Exp::Dim),
-        TokenType::Dim7 => push(h, Exp::Dim7),
-        TokenType::HalfDim => push(h, Exp::HalfDim),
+        TokenType::Dim => push(h, Exp::Dim, 0),
+        TokenType::Dim7 => push(h, Exp::Dim7, 0),
+        TokenType::HalfDim => push(h, Exp::HalfDim, 0),
         TokenType::Extension(n) => extension(n, h),
         TokenType::Add => add(h, a),
         TokenType::Omit => omit(h, next),
-        TokenType::Alt => push(h, Exp::Alt),
+        TokenType::Alt => push(h, Exp::Alt, 0),
         TokenType::Sus => sus(h, next),
-        TokenType::Minor => push(h, Exp::Minor),
+        TokenType::Minor => push(h, Exp::Minor, 0),
         TokenType::Hyphen => hyphen(h, next),
-        TokenType::Maj => push(h, Exp::Maj),
-        TokenType::Maj7 => push(h, Exp::Maj7),
+        TokenType::Maj => push(h, Exp::Maj, 0),
+        TokenType::Maj7 => push(h, Exp::Maj7, 0),
         TokenType::Slash => slash(h, a),
         TokenType::LParent => lparen(h),
         TokenType::RParent => rparen(h),
         TokenType::Comma => comma(h),
-        TokenType::Bass => push(h, Exp::Bass),
-        TokenType::Illegal => fail(h, ParserError::IllegalToken(h.pos)),
+        TokenType::Bass => push(h, Exp::Bass, 0),
+        TokenType::Illegal => fail(h, ParserError::IllegalToken(h.pos), 0),
         TokenType::Eof => keep(h),
     }
 }
@@ -394,7 +378,7 @@ pub fn process_inside(pos: u16, kind: TokenType, h: Here, a: Ahead) -> Effect
 {
     match bracket_kind(kind) {
         Bracket::Closes => close(h),
-        Bracket::Ends => fail(h, ParserError::MissingClosingParenthesis(pos)),
+        Bracket::Ends => fail(h, ParserError::MissingClosingParenthesis(pos), 0),
         Bracket::Opens => lparen(h).set_error(ParserError::NestedParenthesis(pos)),
         Bracket::Other => process_token(kind, h, a),
     }

@@ -1,10 +1,46 @@
--- Each arm is the definition at that type.
+-- Each arm is the definition at that type, and so is the last at the other types.
 -- Assumes nothing.
-use mathlib.Core.Path.{sym, ap}
+use mathlib.Core.List.{List, [], _∷_}
+use mathlib.Core.Path.{_≡_, refl, sym, ap}
+use Prim.Native.Nat.{ℕ}
 use borrow.Author.Needs.{needs}
+use denote.Enum.Declared.{tagOf}
+use types.Run.{OneOf, miss}
+use Rattle.token.proofs.TokenType.{the-type}
+use Rattle.token.specs.declared.TokenType.the-variants as type
+use Rattle.token.specs.declared.TokenType.{TokenType}
 use Rattle.step.specs.Next.{nextOf}
+use Rattle.step.specs.declared.next.Next.the-variants.{Other}
 use Rattle.step.proofs.next.next_of.Statement.{statement}
 use Rattle.step.proofs.next.next_of.Tie as tie
+
+abbrev others : List ℕ
+others = 3 ∷ 4 ∷ 5 ∷ 6 ∷ 8 ∷ 9 ∷ 10 ∷ 11 ∷ 12 ∷ 13 ∷ 14 ∷ 16 ∷ 17 ∷ 18 ∷ 19 ∷ 20 ∷ 21 ∷ []
+
+rest : (k : TokenType) → OneOf others (tagOf the-type k) → Other ≡ nextOf k
+rest (type.Note l) o = absurd (miss others 0 tt o)
+rest type.Sharp o = absurd (miss others 1 tt o)
+rest type.Flat o = absurd (miss others 2 tt o)
+rest type.Aug o = refl
+rest type.Dim o = refl
+rest type.Dim7 o = refl
+rest type.HalfDim o = refl
+rest (type.Extension n) o = absurd (miss others 7 tt o)
+rest type.Add o = refl
+rest type.Omit o = refl
+rest type.Alt o = refl
+rest type.Sus o = refl
+rest type.Minor o = refl
+rest type.Hyphen o = refl
+rest type.Maj o = refl
+rest type.Maj7 o = absurd (miss others 15 tt o)
+rest type.Slash o = refl
+rest type.LParent o = refl
+rest type.RParent o = refl
+rest type.Comma o = refl
+rest type.Bass o = refl
+rest type.Illegal o = refl
+rest type.Eof o = absurd (miss others 22 tt o)
 
 enum-known-kind : tie.Need-enum-known-kind
 enum-known-kind c = search needs
@@ -15,65 +51,14 @@ enum-told c = search needs
 enum-told-2 : tie.Need-enum-told-2
 enum-told-2 c = search needs
 
+enum-known-kind-2 : tie.Need-enum-known-kind-2
+enum-known-kind-2 c = search needs
+
 enum-told-3 : tie.Need-enum-told-3
 enum-told-3 c = search needs
 
 enum-told-4 : tie.Need-enum-told-4
 enum-told-4 c = search needs
-
-enum-told-5 : tie.Need-enum-told-5
-enum-told-5 c = search needs
-
-enum-told-6 : tie.Need-enum-told-6
-enum-told-6 c = search needs
-
-enum-known-kind-2 : tie.Need-enum-known-kind-2
-enum-known-kind-2 c = search needs
-
-enum-told-7 : tie.Need-enum-told-7
-enum-told-7 c = search needs
-
-enum-told-8 : tie.Need-enum-told-8
-enum-told-8 c = search needs
-
-enum-told-9 : tie.Need-enum-told-9
-enum-told-9 c = search needs
-
-enum-told-10 : tie.Need-enum-told-10
-enum-told-10 c = search needs
-
-enum-told-11 : tie.Need-enum-told-11
-enum-told-11 c = search needs
-
-enum-told-12 : tie.Need-enum-told-12
-enum-told-12 c = search needs
-
-enum-told-13 : tie.Need-enum-told-13
-enum-told-13 c = search needs
-
-enum-told-14 : tie.Need-enum-told-14
-enum-told-14 c = search needs
-
-enum-told-15 : tie.Need-enum-told-15
-enum-told-15 c = search needs
-
-enum-told-16 : tie.Need-enum-told-16
-enum-told-16 c = search needs
-
-enum-told-17 : tie.Need-enum-told-17
-enum-told-17 c = search needs
-
-enum-told-18 : tie.Need-enum-told-18
-enum-told-18 c = search needs
-
-enum-told-19 : tie.Need-enum-told-19
-enum-told-19 c = search needs
-
-enum-told-20 : tie.Need-enum-told-20
-enum-told-20 c = search needs
-
-enum-told-21 : tie.Need-enum-told-21
-enum-told-21 c = search needs
 
 returns : tie.Need-returns
 returns c = sym (ap nextOf (c .before .kind .given .1))
@@ -85,64 +70,16 @@ returns-3 : tie.Need-returns-3
 returns-3 c = sym (ap nextOf (c .enum-told2 .given .1))
 
 returns-4 : tie.Need-returns-4
-returns-4 c = sym (ap nextOf (c .enum-told3 .given .1))
+returns-4 c = sym (ap nextOf (c .before .kind2 .given .1))
 
 returns-5 : tie.Need-returns-5
-returns-5 c = sym (ap nextOf (c .enum-told4 .given .1))
+returns-5 c = sym (ap nextOf (c .enum-told3 .given .1))
 
 returns-6 : tie.Need-returns-6
-returns-6 c = sym (ap nextOf (c .enum-told5 .given .1))
+returns-6 c = sym (ap nextOf (c .enum-told4 .given .1))
 
 returns-7 : tie.Need-returns-7
-returns-7 c = sym (ap nextOf (c .enum-told6 .given .1))
-
-returns-8 : tie.Need-returns-8
-returns-8 c = sym (ap nextOf (c .before .kind2 .given .1))
-
-returns-9 : tie.Need-returns-9
-returns-9 c = sym (ap nextOf (c .enum-told7 .given .1))
-
-returns-10 : tie.Need-returns-10
-returns-10 c = sym (ap nextOf (c .enum-told8 .given .1))
-
-returns-11 : tie.Need-returns-11
-returns-11 c = sym (ap nextOf (c .enum-told9 .given .1))
-
-returns-12 : tie.Need-returns-12
-returns-12 c = sym (ap nextOf (c .enum-told10 .given .1))
-
-returns-13 : tie.Need-returns-13
-returns-13 c = sym (ap nextOf (c .enum-told11 .given .1))
-
-returns-14 : tie.Need-returns-14
-returns-14 c = sym (ap nextOf (c .enum-told12 .given .1))
-
-returns-15 : tie.Need-returns-15
-returns-15 c = sym (ap nextOf (c .enum-told13 .given .1))
-
-returns-16 : tie.Need-returns-16
-returns-16 c = sym (ap nextOf (c .enum-told14 .given .1))
-
-returns-17 : tie.Need-returns-17
-returns-17 c = sym (ap nextOf (c .enum-told15 .given .1))
-
-returns-18 : tie.Need-returns-18
-returns-18 c = sym (ap nextOf (c .enum-told16 .given .1))
-
-returns-19 : tie.Need-returns-19
-returns-19 c = sym (ap nextOf (c .enum-told17 .given .1))
-
-returns-20 : tie.Need-returns-20
-returns-20 c = sym (ap nextOf (c .enum-told18 .given .1))
-
-returns-21 : tie.Need-returns-21
-returns-21 c = sym (ap nextOf (c .enum-told19 .given .1))
-
-returns-22 : tie.Need-returns-22
-returns-22 c = sym (ap nextOf (c .enum-told20 .given .1))
-
-returns-23 : tie.Need-returns-23
-returns-23 c = sym (ap nextOf (c .enum-told21 .given .1))
+returns-7 c = rest (c .before .args .kind) (c .match .keys7)
 
 pub next-of-spec : {M : Type 1} → statement M
 next-of-spec =
@@ -151,46 +88,13 @@ next-of-spec =
     enum-known-kind
     enum-told
     enum-told-2
+    enum-known-kind-2
     enum-told-3
     enum-told-4
-    enum-told-5
-    enum-told-6
-    enum-known-kind-2
-    enum-told-7
-    enum-told-8
-    enum-told-9
-    enum-told-10
-    enum-told-11
-    enum-told-12
-    enum-told-13
-    enum-told-14
-    enum-told-15
-    enum-told-16
-    enum-told-17
-    enum-told-18
-    enum-told-19
-    enum-told-20
-    enum-told-21
     returns
     returns-2
     returns-3
     returns-4
     returns-5
     returns-6
-    returns-7
-    returns-8
-    returns-9
-    returns-10
-    returns-11
-    returns-12
-    returns-13
-    returns-14
-    returns-15
-    returns-16
-    returns-17
-    returns-18
-    returns-19
-    returns-20
-    returns-21
-    returns-22
-    returns-23)
+    returns-7)

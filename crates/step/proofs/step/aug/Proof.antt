@@ -11,11 +11,8 @@ number-requires c κs = search needs
 push-requires : tie.Need-push-requires
 push-requires c κs = search needs
 
-take-requires : tie.Need-take-requires
-take-requires c κs = search needs
-
 returns : tie.Need-returns
-returns c = rw (c .take .ensures, c .before .push .ensures, ← c .before .before .before .number .ensures, c .before .before .if1 .taken)
+returns c = rw (c .push .ensures, ← c .before .before .number .ensures, c .before .if1 .taken)
 
 push-requires-2 : tie.Need-push-requires-2
 push-requires-2 c κs = search needs
@@ -26,4 +23,4 @@ returns-2 c = rw (c .push2 .ensures, ← c .before .before .number .ensures, ne-
 pub aug-spec : {M : Type 1} → statement M
 aug-spec =
     tie.close
-    (tie.spec number-requires push-requires take-requires returns push-requires-2 returns-2)
+    (tie.spec number-requires push-requires returns push-requires-2 returns-2)

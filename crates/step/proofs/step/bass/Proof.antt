@@ -7,40 +7,24 @@ use Rattle.step.proofs.step.bass.Tie as tie
 is-sign-requires : tie.Need-is-sign-requires
 is-sign-requires c κs = search needs
 
-push-requires : tie.Need-push-requires
-push-requires c κs = search needs
-
-take-requires : tie.Need-take-requires
-take-requires c κs = search needs
-
 last-requires : tie.Need-last-requires
 last-requires c κs = search needs
 
 returns : tie.Need-returns
-returns c = rw (c .last .ensures, c .before .take .ensures, c .before .before .push .ensures, ← c .before .before .before .before .is-sign .ensures, c .before .before .before .if1 .taken)
-
-push-requires-2 : tie.Need-push-requires-2
-push-requires-2 c κs = search needs
-
-take-requires-2 : tie.Need-take-requires-2
-take-requires-2 c κs = search needs
+returns c = rw (c .last .ensures, ← c .before .before .is-sign .ensures, c .before .if1 .taken)
 
 last-requires-2 : tie.Need-last-requires-2
 last-requires-2 c κs = search needs
 
 returns-2 : tie.Need-returns-2
-returns-2 c = rw (c .last2 .ensures, c .before .take2 .ensures, c .before .before .push2 .ensures, ← c .before .before .before .before .is-sign .ensures, c .before .before .before .if1 .left)
+returns-2 c = rw (c .last2 .ensures, ← c .before .before .is-sign .ensures, c .before .if1 .left)
 
 pub bass-spec : {M : Type 1} → statement M
 bass-spec =
     tie.close
     (tie.spec
     is-sign-requires
-    push-requires
-    take-requires
     last-requires
     returns
-    push-requires-2
-    take-requires-2
     last-requires-2
     returns-2)

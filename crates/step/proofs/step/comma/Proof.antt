@@ -9,14 +9,11 @@ use Rattle.step.proofs.step.comma.Tie as tie
 on-comma-requires : tie.Need-on-comma-requires
 on-comma-requires c κs = search needs
 
-keep-requires : tie.Need-keep-requires
-keep-requires c κs = search needs
-
-set-context-requires : tie.Need-set-context-requires
-set-context-requires c κs = search needs
+enter-requires : tie.Need-enter-requires
+enter-requires c κs = search needs
 
 returns : tie.Need-returns
-returns c = rw (c .set-context .ensures, c .before .keep .ensures, c .before .before .on-comma .ensures)
+returns c = rw (c .enter .ensures, c .before .on-comma .ensures)
 
 pub comma-spec : {M : Type 1} → statement M
-comma-spec = tie.close (tie.spec on-comma-requires keep-requires set-context-requires returns)
+comma-spec = tie.close (tie.spec on-comma-requires enter-requires returns)

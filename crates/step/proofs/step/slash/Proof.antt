@@ -7,17 +7,11 @@ use Rattle.step.proofs.step.slash.Tie as tie
 is-six-nine-requires : tie.Need-is-six-nine-requires
 is-six-nine-requires c κs = search needs
 
-push-requires : tie.Need-push-requires
-push-requires c κs = search needs
-
-take-requires : tie.Need-take-requires
-take-requires c κs = search needs
-
 last-requires : tie.Need-last-requires
 last-requires c κs = search needs
 
 returns : tie.Need-returns
-returns c = rw (c .last .ensures, c .before .take .ensures, c .before .before .push .ensures, ← c .before .before .before .before .is-six-nine .ensures, c .before .before .before .if1 .taken)
+returns c = rw (c .last .ensures, ← c .before .before .is-six-nine .ensures, c .before .if1 .taken)
 
 sign-requires : tie.Need-sign-requires
 sign-requires c κs = search needs
@@ -37,22 +31,17 @@ enum-told c = search needs
 fail-requires : tie.Need-fail-requires
 fail-requires c κs = search needs
 
-take-requires-2 : tie.Need-take-requires-2
-take-requires-2 c κs = search needs
-
 returns-2 : tie.Need-returns-2
 returns-2 c = rw (c .bass .ensures, ← c .before .before .before .before .before .before .before .is-six-nine .ensures, c .before .before .before .before .before .before .if1 .left, ← c .before .before .before .before .before .sign .ensures, ← c .before .before .before .before .note .ensures, c .before .before .note2 .given .1)
 
 returns-3 : tie.Need-returns-3
-returns-3 c = rw (c .take2 .ensures, c .before .fail .ensures, ← c .before .before .before .before .before .before .before .is-six-nine .ensures, c .before .before .before .before .before .before .if1 .left, ← c .before .before .before .before .before .sign .ensures, ← c .before .before .before .before .note .ensures, c .before .before .enum-told .given .1)
+returns-3 c = rw (c .fail .ensures, ← c .before .before .before .before .before .before .is-six-nine .ensures, c .before .before .before .before .before .if1 .left, ← c .before .before .before .before .sign .ensures, ← c .before .before .before .note .ensures, c .before .enum-told .given .1)
 
 pub slash-spec : {M : Type 1} → statement M
 slash-spec =
     tie.close
     (tie.spec
     is-six-nine-requires
-    push-requires
-    take-requires
     last-requires
     returns
     sign-requires
@@ -61,6 +50,5 @@ slash-spec =
     bass-requires
     enum-told
     fail-requires
-    take-requires-2
     returns-2
     returns-3)
