@@ -1,48 +1,61 @@
-// The interval that a sign and a number name.
+// The interval that a sign and a number name; 23 is none.
 ghost use mathlib.Core.Path.{_≡_};
-ghost use Prim.Native.Nat.{_<_};
-ghost use lib.ListN.{getD};
-ghost use Rattle.step.specs.Interval.{intervalOf, natural, sharp, flat};
+ghost use Rattle.step.specs.Interval.{intervalOf};
+ghost use Rattle.chord.specs.declared.note.RootModifier.the-variants.{Natural, Sharp, Flat};
 use chord::note::RootModifier;
 
-// 23 is no interval.
-const NATURAL: [u8; 14] = [23, 0, 2, 4, 5, 8, 11, 13, 15, 17, 23, 19, 23, 22];
-
-const SHARP: [u8; 14] = [23, 23, 23, 23, 6, 9, 23, 23, 23, 18, 23, 20, 23, 23];
-
-const FLAT: [u8; 14] = [23, 23, 1, 3, 23, 7, 10, 13, 23, 16, 23, 23, 23, 21];
-
-fn natural(number: usize) -> u8
-    requires { ⌜ number < 14 ⌝ }
-    ensures { λ r. ⌜ r ≡ getD natural number 0 ⌝ }
+fn natural(number: u8) -> u8
+    ensures { λ r. ⌜ r ≡ intervalOf Natural number ⌝ }
 {
-    NATURAL[number]
+    match number {
+        1 => 0,
+        2 => 2,
+        3 => 4,
+        4 => 5,
+        5 => 8,
+        6 => 11,
+        7 => 13,
+        8 => 15,
+        9 => 17,
+        11 => 19,
+        13 => 22,
+        _ => 23,
+    }
 }
 
-fn sharp(number: usize) -> u8
-    requires { ⌜ number < 14 ⌝ }
-    ensures { λ r. ⌜ r ≡ getD sharp number 0 ⌝ }
+fn sharp(number: u8) -> u8
+    ensures { λ r. ⌜ r ≡ intervalOf Sharp number ⌝ }
 {
-    SHARP[number]
+    match number {
+        4 => 6,
+        5 => 9,
+        9 => 18,
+        11 => 20,
+        _ => 23,
+    }
 }
 
-fn flat(number: usize) -> u8
-    requires { ⌜ number < 14 ⌝ }
-    ensures { λ r. ⌜ r ≡ getD flat number 0 ⌝ }
+fn flat(number: u8) -> u8
+    ensures { λ r. ⌜ r ≡ intervalOf Flat number ⌝ }
 {
-    FLAT[number]
+    match number {
+        2 => 1,
+        3 => 3,
+        5 => 7,
+        6 => 10,
+        7 => 13,
+        9 => 16,
+        13 => 21,
+        _ => 23,
+    }
 }
 
 pub(crate) fn from_modifier_extension(modifier: RootModifier, number: u8) -> u8
     ensures { λ r. ⌜ r ≡ intervalOf modifier number ⌝ }
 {
-    let n = number as usize;
-    if 14 <= n {
-        return 23;
-    }
     match modifier {
-        RootModifier::Natural => natural(n),
-        RootModifier::Sharp => sharp(n),
-        RootModifier::Flat => flat(n),
+        RootModifier::Natural => natural(number),
+        RootModifier::Sharp => sharp(number),
+        RootModifier::Flat => flat(number),
     }
 }

@@ -70,7 +70,7 @@ impl Next {
         }
     }
 
-    pub(crate) fn sign(self) -> RootModifier
+    pub fn sign(self) -> RootModifier
         ensures { λ r. ⌜ r ≡ signIn self ⌝ }
     {
         match self {
@@ -84,7 +84,7 @@ impl Next {
         }
     }
 
-    pub(crate) fn is_sign(self) -> bool
+    pub fn is_sign(self) -> bool
         ensures { λ r. ⌜ r ≡ isSign self ⌝ }
     {
         match self {
@@ -127,7 +127,7 @@ impl Next {
     }
 
     // The note that begins here, with the sign of the token behind it.
-    pub(crate) fn note(self, modifier: RootModifier) -> OptionalNote
+    pub fn note(self, modifier: RootModifier) -> OptionalNote
         ensures { λ r. ⌜ r ≡ noteIn self modifier ⌝ }
     {
         match self {
