@@ -10,6 +10,7 @@ use Rattle.token.specs.declared.TokenType.{TokenType}
 use Rattle.step.specs.declared.next.Next.the-variants.{Note, Sharp, Flat, Extension, Maj7, Eof, Other}
 use Rattle.step.specs.declared.next.Next.{Next}
 
+-- what the Rust asks of a token behind: `next_if`, `peek`, `expect_note`, `expect_peek`
 abbrev pub nextOf : TokenType → Next
 nextOf (type.Note l) = Note l
 nextOf type.Sharp = Sharp
@@ -35,7 +36,7 @@ nextOf type.Bass = Other
 nextOf type.Illegal = Other
 nextOf type.Eof = Eof
 
--- the number of an extension; 0 where there is none
+-- the number that `is_extension` finds; 0 where there is none
 abbrev pub numberIn : Next → ℕ
 numberIn (Note l) = 0
 numberIn Sharp = 0
@@ -45,6 +46,7 @@ numberIn Maj7 = 0
 numberIn Eof = 0
 numberIn Other = 0
 
+-- `is_extension`
 abbrev pub isNumber : Next → Bool
 isNumber (Note l) = false
 isNumber Sharp = false
@@ -54,6 +56,7 @@ isNumber Maj7 = false
 isNumber Eof = false
 isNumber Other = false
 
+-- `match_modifier`; natural is none
 abbrev pub signIn : Next → RootModifier
 signIn (Note l) = modifier.Natural
 signIn Sharp = modifier.Sharp
@@ -63,6 +66,7 @@ signIn Maj7 = modifier.Natural
 signIn Eof = modifier.Natural
 signIn Other = modifier.Natural
 
+-- does `match_modifier` find one?
 abbrev pub isSign : Next → Bool
 isSign (Note l) = false
 isSign Sharp = true
@@ -72,6 +76,7 @@ isSign Maj7 = false
 isSign Eof = false
 isSign Other = false
 
+-- `add`: is it a Maj7?
 abbrev pub isMaj7 : Next → Bool
 isMaj7 (Note l) = false
 isMaj7 Sharp = false
@@ -81,6 +86,7 @@ isMaj7 Maj7 = true
 isMaj7 Eof = false
 isMaj7 Other = false
 
+-- `expect_peek` of End
 abbrev pub isEnd : Next → Bool
 isEnd (Note l) = false
 isEnd Sharp = false
@@ -90,7 +96,7 @@ isEnd Maj7 = false
 isEnd Eof = true
 isEnd Other = false
 
--- the note that begins here, with the sign behind it
+-- `expect_note`: the note that begins here, with the sign behind it
 abbrev pub noteIn : Next → RootModifier → OptionalNote
 noteIn (Note l) m = optional.Some (record { literal = l; modifier = m })
 noteIn Sharp m = optional.None

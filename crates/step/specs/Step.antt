@@ -27,56 +27,66 @@ use Rattle.step.specs.declared.next.Next.{Next}
 use Rattle.step.specs.declared.step.Bracket.the-variants.{Opens, Closes, Ends, Other}
 use Rattle.step.specs.declared.step.Bracket.{Bracket}
 
--- an interval outside sus and active groups: the fourth is sus, #4 is not allowed
+-- `add_interval` outside sus and active groups: the fourth is sus, and #4 is not allowed
 abbrev pub intervalAlone : Here → ℕ → ℕ → Effect
 intervalAlone h i p = cond (eqb i 5) (pushing h (Sus 5)) (cond (eqb i 6) (failing h (InvalidExtension p)) (pushing h (Extension i p)))
 
+-- `allowed_sus_interval`: the seconds, the fourth and #4
 abbrev pub susAllows : ℕ → Bool
 susAllows i = eqb i 1 || (eqb i 2 || (eqb i 5 || eqb i 6))
 
--- behind sus, an interval that it does not take leaves it the fourth
+-- `add_interval` in sus: an interval that sus does not take leaves it the fourth (`add_sus_exp`)
 abbrev pub intervalInSus : Here → ℕ → ℕ → Effect
 intervalInSus h i p = within context.None (cond (susAllows i) (pushing h (Sus i)) (pushing2 h (Sus 5) (Extension i p)))
 
+-- `add_interval`, by the state
 abbrev pub addInterval : Context → Here → ℕ → ℕ → Effect
 addInterval context.None h i p = intervalAlone h i p
 addInterval context.Sus h i p = intervalInSus h i p
 addInterval (context.Group g) h i p = cond (g .active) (pushing h (memberOf (g .kind) i p)) (intervalAlone h i p)
 
--- the interval i at p; where there is none, kind 6 at q
+-- `modifier` and `extension`: the interval i at p; where there is none, kind 6 at q
 abbrev pub placed : Here → ℕ → ℕ → ℕ → Effect
 placed h i p q = cond (eqb i 23) (failing h (InvalidExtension q)) (addInterval (h .context) h i p)
 
+-- `modifier`: a sign takes the number behind it
 abbrev pub modifierStep : RootModifier → Here → Next → Effect
 modifierStep m h nx =
     cond (isNumber nx) (taking 1 (placed h (intervalOf m (numberIn nx)) (h .pos) (h .pos + 1)))
     (failing h (UnexpectedModifier (h .pos)))
 
+-- `extension`: a 5 in the state none
 abbrev pub isPower : ℕ → Context → Bool
 isPower n c = eqb n 5 && isNone c
 
+-- `extension`
 abbrev pub numberStep : ℕ → Here → Effect
 numberStep n h = cond (isPower n (h .context)) (pushing h Power) (placed h (intervalOf Natural n) (h .pos) (h .pos))
 
+-- `aug`: a 5 behind it is taken with it
 abbrev pub augStep : Here → Next → Effect
 augStep h nx = cond (eqb (numberIn nx) 5) (taking 1 (pushing h Aug)) (pushing h Aug)
 
+-- `hyphen`: with a 5 behind it the diminished fifth, else minor
 abbrev pub hyphenStep : Here → Next → Effect
 hyphenStep h nx = cond (eqb (numberIn nx) 5) (taking 1 (pushing h (Extension 7 (h .pos)))) (pushing h Minor)
 
+-- `sus`: a number or a sign behind it says which, else it is the fourth
 abbrev pub susStep : Here → Next → Effect
 susStep h nx = cond (isNumber nx || isSign nx) (within context.Sus (kept h)) (within context.None (pushing h (Sus 5)))
 
+-- `omit`: a 5 or a 3 behind it (`consume_extension_if`)
 abbrev pub omitTarget : Here → Next → Effect
 omitTarget h nx =
     cond (eqb (numberIn nx) 5) (taking 1 (pushing h (Omit 8 (h .pos + h .len))))
     (cond (eqb (numberIn nx) 3) (taking 1 (pushing h (Omit 4 (h .pos + h .len))))
     (failing h (IllegalOrMissingOmitTarget (h .pos) (h .len))))
 
+-- `omit`: "Omit and Add open a group only while the count is above 0"
 abbrev pub omitStep : Here → Next → Effect
 omitStep h nx = within (startGroup (h .context) group.Omit (ltZ (pos 0) (h .count))) (omitTarget h nx)
 
--- what an Add does with the token behind its sign m, where k tokens are taken before that one, which stands at q
+-- `add` behind its sign m: the token nx at q, before which k tokens are taken; a number or a Maj7
 abbrev pub addTarget : ℕ → RootModifier → Here → Next → ℕ → Effect
 addTarget k m h nx q =
     cond (isNumber nx)
@@ -84,10 +94,12 @@ addTarget k m h nx q =
     (cond (isMaj7 nx) (taking (k + 1) (pushing h (Add 14 (h .pos + h .len))))
     (taking k (failing h (MissingAddTarget (h .pos) (h .len)))))
 
+-- `add`: the sign that `match_modifier` takes, or none
 abbrev pub addSigned : Here → Ahead → Effect
 addSigned h a =
     cond (isSign (a .first)) (addTarget 1 (signIn (a .first)) h (a .second) (a .pos2)) (addTarget 0 Natural h (a .first) (a .pos))
 
+-- `add`: "Omit and Add open a group only while the count is above 0"
 abbrev pub addStep : Here → Ahead → Effect
 addStep h a = within (startGroup (h .context) group.Add (ltZ (pos 0) (h .count))) (addSigned h a)
 
@@ -99,36 +111,39 @@ sixNine h nx = eqb (numberIn nx) 9 && h .six
 abbrev pub lastly : Here → Next → Effect → Effect
 lastly h nx e = cond (isEnd nx) e (erring (IllegalSlashNotation (h .pos)) e)
 
+-- "a note, with its sign, is the bass"
 abbrev pub bassStep : Note → Here → Ahead → Effect
 bassStep n h a =
     cond (isSign (a .second)) (lastly h (a .third) (taking 2 (pushing h (SlashBass n)))) (lastly h (a .second) (taking 1 (pushing h (SlashBass n))))
 
+-- "a note, with its sign, is the bass; anything else gives kind 14 at the slash"
 abbrev pub noteStep : OptionalNote → Here → Ahead → Effect
 noteStep (optional.Some n) h a = bassStep n h a
 noteStep optional.None h a = taking 1 (failing h (IllegalSlashNotation (h .pos)))
 
--- "A slash always consumes the token after it. .. a note, with its sign, is the bass; anything else gives kind 14 at the slash."
+-- "A slash always consumes the token after it." (`slash`)
 abbrev pub slashStep : Here → Ahead → Effect
 slashStep h a =
     cond (sixNine h (a .first)) (lastly h (a .second) (taking 1 (pushing h (Add 17 (a .pos)))))
     (noteStep (noteIn (a .first) (signIn (a .second))) h a)
 
--- "an opening sign sets the state to none"
+-- "an opening sign sets the state to none" (`lparen`)
 abbrev pub openStep : Here → Effect
 openStep h = within context.None (counting (h .count +ℤ pos 1) (kept h))
 
--- a closing sign of a bracket: "Closing a bracket does not end an Add or Omit group opened inside it"
+-- `lparen` at its closing sign: "Closing a bracket does not end an Add or Omit group opened inside it"
 abbrev pub closed : Here → Effect
 closed h = counting (h .count -ℤ pos 1) (kept h)
 
--- "A closing sign outside any bracket always gives kind 15 and lowers the count by one, below 0 if need be."
+-- "A closing sign outside any bracket always gives kind 15 and lowers the count by one, below 0 if need be." (`rparen`)
 abbrev pub closeStep : Here → Effect
 closeStep h = within context.None (erring (UnexpectedClosingParenthesis (h .pos)) (closed h))
 
+-- `comma`
 abbrev pub commaStep : Here → Effect
 commaStep h = within (onComma (h .context)) (kept h)
 
--- what a token does outside any bracket
+-- `process_token`: what a token does outside any bracket
 abbrev pub stepOf : TokenType → Here → Ahead → Effect
 stepOf (type.Note l) h a = failing h (UnexpectedNote (h .pos))
 stepOf type.Sharp h a = modifierStep Sharp h (a .first)
@@ -154,7 +169,7 @@ stepOf type.Bass h a = pushing h Bass
 stepOf type.Illegal h a = failing h (IllegalToken (h .pos))
 stepOf type.Eof h a = kept h
 
--- what a token is to the bracket around it
+-- what `lparen` asks of each token in its bracket
 abbrev pub bracketKind : TokenType → Bracket
 bracketKind (type.Note l) = Other
 bracketKind type.Sharp = Other
@@ -180,7 +195,7 @@ bracketKind type.Bass = Other
 bracketKind type.Illegal = Other
 bracketKind type.Eof = Ends
 
--- and inside the bracket that was opened at q: "the innermost open bracket meets End and gives kind 16 at its own position"; "An inner
+-- `lparen`, in the bracket opened at q: "the innermost open bracket meets End and gives kind 16 at its own position"; "An inner
 -- bracket gives kind 17 at the outer one's position and is still read."
 abbrev pub insideOf : Bracket → ℕ → TokenType → Here → Ahead → Effect
 insideOf Closes q k h a = closed h

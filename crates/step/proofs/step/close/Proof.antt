@@ -1,14 +1,14 @@
 -- A count of magnitude below 1,000 has room.
 -- Assumes nothing.
-use Rattle.step.proofs.Signed.{down-fits, down-is}
+use Rattle.step.proofs.Count.{closes-fits, closes}
 use Rattle.step.proofs.step.close.Statement.{statement}
 use Rattle.step.proofs.step.close.Tie as tie
 
 sub-t3 : tie.Need-sub-t3
-sub-t3 c = down-fits (c .before .before .args .h .count) (c .before .before .pre)
+sub-t3 c = closes-fits (c .before .before .args .h .count) (c .before .before .pre)
 
 returns : tie.Need-returns
-returns c = rw (down-is (c .before .before .args .h .count) (c .before .before .pre))
+returns c = rw (closes (c .before .before .args .h .count) (c .before .before .pre))
 
 pub close-spec : {M : Type 1} → statement M
 close-spec = tie.close (tie.spec sub-t3 returns)
