@@ -2,5 +2,4 @@
 pub mod context;
 pub mod effect;
 pub mod interval;
-pub mod next;
 pub mod step;

@@ -3,9 +3,6 @@
 use borrow.Author.Needs.{needs}
 use Rattle.step.proofs.interval.from_modifier_extension.Statement.{statement}
 use Rattle.step.proofs.interval.from_modifier_extension.Tie as tie
-use Rattle.step.proofs.interval.flat.Reads as flat-reads
-use Rattle.step.proofs.interval.natural.Reads as natural-reads
-use Rattle.step.proofs.interval.sharp.Reads as sharp-reads
 
 enum-told : tie.Need-enum-told
 enum-told c = search needs

@@ -4,12 +4,6 @@ use borrow.Author.Needs.{needs}
 use borrow.Author.Tests.{ne-eqb}
 use Rattle.step.proofs.step.add_target.Statement.{statement}
 use Rattle.step.proofs.step.add_target.Tie as tie
-use Rattle.step.proofs.effect.fail.Reads as fail-reads
-use Rattle.step.proofs.effect.push.Reads as push-reads
-use Rattle.step.proofs.interval.from_modifier_extension.Reads as from-modifier-extension-reads
-use Rattle.step.proofs.next.Next.is_extension.Reads as is-extension-reads
-use Rattle.step.proofs.next.Next.is_maj7.Reads as is-maj7-reads
-use Rattle.step.proofs.next.Next.number.Reads as number-reads
 
 is-extension-requires : tie.Need-is-extension-requires
 is-extension-requires c κs = search needs

@@ -3,9 +3,6 @@
 use borrow.Author.Needs.{needs}
 use Rattle.step.proofs.step.last.Statement.{statement}
 use Rattle.step.proofs.step.last.Tie as tie
-use Rattle.step.proofs.effect.Effect.set_error.Reads as set-error-reads
-use Rattle.step.proofs.effect.push.Reads as push-reads
-use Rattle.step.proofs.next.Next.is_eof.Reads as is-eof-reads
 
 push-requires : tie.Need-push-requires
 push-requires c κs = search needs

@@ -9,10 +9,10 @@ use types.Run.{OneOf, miss}
 use Rattle.token.proofs.TokenType.{the-type}
 use Rattle.token.specs.declared.TokenType.the-variants as type
 use Rattle.token.specs.declared.TokenType.{TokenType}
-use Rattle.step.specs.Next.{nextOf}
-use Rattle.step.specs.declared.next.Next.the-variants.{Other}
-use Rattle.step.proofs.next.next_of.Statement.{statement}
-use Rattle.step.proofs.next.next_of.Tie as tie
+use Rattle.behind.specs.Next.{nextOf}
+use Rattle.behind.specs.declared.Next.the-variants.{Other}
+use Rattle.behind.proofs.next_of.Statement.{statement}
+use Rattle.behind.proofs.next_of.Tie as tie
 
 abbrev others : List ℕ
 others = 3 ∷ 4 ∷ 5 ∷ 6 ∷ 8 ∷ 9 ∷ 10 ∷ 11 ∷ 12 ∷ 13 ∷ 14 ∷ 16 ∷ 17 ∷ 18 ∷ 19 ∷ 20 ∷ 21 ∷ []

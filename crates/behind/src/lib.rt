@@ -1,6 +1,6 @@
-// What a token behind the one that is read can be to it.
+// What a token behind the one that is read can be to it, and the three that it can ask for.
 ghost use mathlib.Core.Path.{_≡_};
-ghost use Rattle.step.specs.Next.{nextOf, numberIn, isNumber, signIn, isSign, isMaj7, isEnd, noteIn};
+ghost use Rattle.behind.specs.Next.{nextOf, numberIn, isNumber, signIn, isSign, isMaj7, isEnd, noteIn};
 use chord::note::Note;
 use chord::note::NoteLiteral;
 use chord::note::OptionalNote;
@@ -42,7 +42,7 @@ pub fn next_of(kind: TokenType) -> Next
 
 impl Next {
     // The number of an extension; 0 where there is none.
-    pub(crate) fn number(self) -> u8
+    pub fn number(self) -> u8
         ensures { λ r. ⌜ r ≡ numberIn self ⌝ }
     {
         match self {
@@ -56,7 +56,7 @@ impl Next {
         }
     }
 
-    pub(crate) fn is_extension(self) -> bool
+    pub fn is_extension(self) -> bool
         ensures { λ r. ⌜ r ≡ isNumber self ⌝ }
     {
         match self {
@@ -98,7 +98,7 @@ impl Next {
         }
     }
 
-    pub(crate) fn is_maj7(self) -> bool
+    pub fn is_maj7(self) -> bool
         ensures { λ r. ⌜ r ≡ isMaj7 self ⌝ }
     {
         match self {
@@ -112,7 +112,7 @@ impl Next {
         }
     }
 
-    pub(crate) fn is_eof(self) -> bool
+    pub fn is_eof(self) -> bool
         ensures { λ r. ⌜ r ≡ isEnd self ⌝ }
     {
         match self {

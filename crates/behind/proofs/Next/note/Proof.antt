@@ -2,9 +2,9 @@
 -- Assumes nothing.
 use mathlib.Core.Path.{sym, ap}
 use borrow.Author.Needs.{needs}
-use Rattle.step.specs.Next.{noteIn}
-use Rattle.step.proofs.next.Next.note.Statement.{statement}
-use Rattle.step.proofs.next.Next.note.Tie as tie
+use Rattle.behind.specs.Next.{noteIn}
+use Rattle.behind.proofs.Next.note.Statement.{statement}
+use Rattle.behind.proofs.Next.note.Tie as tie
 
 enum-known-self : tie.Need-enum-known-self
 enum-known-self c = search needs

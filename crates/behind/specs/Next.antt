@@ -7,8 +7,8 @@ use Rattle.chord.specs.declared.note.RootModifier.the-variants as modifier
 use Rattle.chord.specs.declared.note.RootModifier.{RootModifier}
 use Rattle.token.specs.declared.TokenType.the-variants as type
 use Rattle.token.specs.declared.TokenType.{TokenType}
-use Rattle.step.specs.declared.next.Next.the-variants.{Note, Sharp, Flat, Extension, Maj7, Eof, Other}
-use Rattle.step.specs.declared.next.Next.{Next}
+use Rattle.behind.specs.declared.Next.the-variants.{Note, Sharp, Flat, Extension, Maj7, Eof, Other}
+use Rattle.behind.specs.declared.Next.{Next}
 
 -- what the Rust asks of a token behind: `next_if`, `peek`, `expect_note`, `expect_peek`
 abbrev pub nextOf : TokenType → Next
