@@ -1,5 +1,5 @@
 -- What a step does, from what `join` and a store did.
-use mathlib.Core.Bool.{false}
+use mathlib.Core.Bool.{Bool, true, false, cond}
 use mathlib.Core.List.{List, [], _∷_, _++_}
 use mathlib.Core.Path.{_≡_, refl, sym, ap, _∙_}
 use Prim.Native.Nat.{ℕ, _+_, _-_, _<_}
@@ -8,10 +8,10 @@ use native.Mathlib.Omega.{arith}
 use lib.Dec.{eqb}
 use lib.ListN.{length, set, take, drop}
 use lib.Seq.{take-suc-set, drop-set-lt}
-use borrow.Author.Tests.{eq-eqb, ne-eqb}
+use borrow.Author.Tests.{eq-eqb, ne-eqb, eqb-true, eqb-false}
 use Rattle.token.specs.Token.{Token, at}
 use Rattle.folding.specs.Folding.{is, one, count, seven, taken}
-use Rattle.folding.specs.State.{Apart, Counted, Joined, Stepped}
+use Rattle.folding.specs.State.{Apart, Counted, Joined, partnerCame, sevenCame, Stepped}
 use Rattle.folding.specs.declared.Out.{Out}
 use Rattle.folding.proofs.Counts.{is-so, is-not, count-snoc, join-grows, join-pairs}
 
@@ -32,7 +32,7 @@ module _ {m r i e : ℕ} {o : Out} {R R′ : List Token} (apart : Apart m r) (C 
     partner-list : take e R′ ≡ taken m r (take (o .at) R) (at R i)
     partner-list = rw (is-so m (at R i) h) (J .list)
 
-    pub partner-comes : o .sevens ≡ 0 → Stepped m r i o (out e (o .partners + 1) (o .sevens)) R R′
+    partner-comes : o .sevens ≡ 0 → Stepped m r i o (out e (o .partners + 1) (o .sevens)) R R′
     partner-comes z =
         let a : count m (take e R′) ≡ count m (take (o .at) R) + one (is m (at R i)) = grows m seven (o .sevens) J z (C .sevens) in
         let b : count seven (take e R′) ≡ count seven (take (o .at) R) + one (is seven (at R i)) = grows seven seven (o .sevens) J z (C .sevens) in
@@ -41,13 +41,20 @@ module _ {m r i e : ℕ} {o : Out} {R R′ : List Token} (apart : Apart m r) (C 
         let n : e ≡ o .at + 1 = J .came z in
         record { list = partner-list; rest = J .rest; more = omega arith; most = omega arith; counted = record { partners = omega (arith, C .partners); sevens = omega (arith, C .sevens) } }
 
-    pub partner-pairs : (o .sevens ≡ 0 → ⊥) → Stepped m r i o (out e (o .partners) (o .sevens - 1)) R R′
+    partner-pairs : (o .sevens ≡ 0 → ⊥) → Stepped m r i o (out e (o .partners) (o .sevens - 1)) R R′
     partner-pairs z =
         let a : count m (take e R′) + one (eqb seven m) ≡ count m (take (o .at) R) = pairs m seven (o .sevens) J z (C .sevens) (apart .result) in
         let b : count seven (take e R′) + 1 ≡ count seven (take (o .at) R) = pairs seven seven (o .sevens) J z (C .sevens) (apart .last) in
         let p : one (eqb seven m) ≡ 0 = ap one (ne-eqb seven m (λ x. apart .partner (sym x))) in
         let n : e ≡ o .at = J .stayed (omega arith) in
         record { list = partner-list; rest = J .rest; more = omega arith; most = omega arith; counted = record { partners = omega (arith, C .partners); sevens = omega (arith, C .sevens) } }
+
+    partner-either : (b : Bool) → eqb (o .sevens) 0 ≡ b → Stepped m r i o (cond b (out e (o .partners + 1) (o .sevens)) (out e (o .partners) (o .sevens - 1))) R R′
+    partner-either true x = partner-comes (eqb-true (o .sevens) 0 x)
+    partner-either false x = partner-pairs (eqb-false (o .sevens) 0 x)
+
+    pub partner-taken : Stepped m r i o (partnerCame o e) R R′
+    partner-taken = partner-either (eqb (o .sevens) 0) refl
 
   module _ (h : (at R i) .kind ≡ seven) (J : Joined m r i (o .partners) (o .at) e R R′) where
     no-partner : is m (at R i) ≡ false
@@ -56,7 +63,7 @@ module _ {m r i e : ℕ} {o : Out} {R R′ : List Token} (apart : Apart m r) (C 
     seven-list : take e R′ ≡ taken m r (take (o .at) R) (at R i)
     seven-list = rw (no-partner, is-so seven (at R i) h) (J .list)
 
-    pub seven-comes : o .partners ≡ 0 → Stepped m r i o (out e (o .partners) (o .sevens + 1)) R R′
+    seven-comes : o .partners ≡ 0 → Stepped m r i o (out e (o .partners) (o .sevens + 1)) R R′
     seven-comes z =
         let a : count m (take e R′) ≡ count m (take (o .at) R) + one (is m (at R i)) = grows m m (o .partners) J z (C .partners) in
         let b : count seven (take e R′) ≡ count seven (take (o .at) R) + one (is seven (at R i)) = grows seven m (o .partners) J z (C .partners) in
@@ -65,7 +72,7 @@ module _ {m r i e : ℕ} {o : Out} {R R′ : List Token} (apart : Apart m r) (C 
         let n : e ≡ o .at + 1 = J .came z in
         record { list = seven-list; rest = J .rest; more = omega arith; most = omega arith; counted = record { partners = omega (arith, C .partners); sevens = omega (arith, C .sevens) } }
 
-    pub seven-pairs : (o .partners ≡ 0 → ⊥) → Stepped m r i o (out e (o .partners - 1) (o .sevens)) R R′
+    seven-pairs : (o .partners ≡ 0 → ⊥) → Stepped m r i o (out e (o .partners - 1) (o .sevens)) R R′
     seven-pairs z =
         let a : count m (take e R′) + one (eqb m m) ≡ count m (take (o .at) R) = pairs m m (o .partners) J z (C .partners) (apart .result) in
         let b : count seven (take e R′) + one (eqb m seven) ≡ count seven (take (o .at) R) = pairs seven m (o .partners) J z (C .partners) (apart .last) in
@@ -73,6 +80,13 @@ module _ {m r i e : ℕ} {o : Out} {R R′ : List Token} (apart : Apart m r) (C 
         let q : one (eqb m m) ≡ 1 = ap one (eq-eqb m m refl) in
         let n : e ≡ o .at = J .stayed (omega arith) in
         record { list = seven-list; rest = J .rest; more = omega arith; most = omega arith; counted = record { partners = omega (arith, C .partners); sevens = omega (arith, C .sevens) } }
+
+    seven-either : (b : Bool) → eqb (o .partners) 0 ≡ b → Stepped m r i o (cond b (out e (o .partners) (o .sevens + 1)) (out e (o .partners - 1) (o .sevens))) R R′
+    seven-either true x = seven-comes (eqb-true (o .partners) 0 x)
+    seven-either false x = seven-pairs (eqb-false (o .partners) 0 x)
+
+    pub seven-taken : Stepped m r i o (sevenCame o e) R R′
+    seven-taken = seven-either (eqb (o .partners) 0) refl
 
 module _ {m r i : ℕ} {o : Out} {R R′ : List Token} (apart : Apart m r) (C : Counted m o R) where
   -- any other token

@@ -1,5 +1,5 @@
 -- What the code keeps while it folds, and what a step does.
-use mathlib.Core.Bool.{Bool, _&&_}
+use mathlib.Core.Bool.{Bool, cond, _&&_}
 use mathlib.Core.List.{List, _∷_}
 use mathlib.Core.Path.{_≡_}
 use Prim.Native.Nat.{ℕ, _+_, _-_, _≤_, _<_}
@@ -33,6 +33,14 @@ pub record Joined (k r i waiting w e : ℕ) (R R′ : List Token) : Type 0 where
   pub rest : drop e R′ ≡ drop e R
   pub came : waiting ≡ 0 → e ≡ w + 1
   pub stayed : 0 < waiting → e ≡ w
+
+-- o after a partner, where e tokens are left: it pairs with a 7, or waits for one
+abbrev pub partnerCame : Out → ℕ → Out
+partnerCame o e = cond (eqb (o .sevens) 0) (record { at = e; partners = o .partners + 1; sevens = o .sevens }) (record { at = e; partners = o .partners; sevens = o .sevens - 1 })
+
+-- the same for a 7
+abbrev pub sevenCame : Out → ℕ → Out
+sevenCame o e = cond (eqb (o .partners) 0) (record { at = e; partners = o .partners; sevens = o .sevens + 1 }) (record { at = e; partners = o .partners - 1; sevens = o .sevens })
 
 -- token i was taken: o and the tokens R became o′ and R′
 pub record Stepped (m r i : ℕ) (o o′ : Out) (R R′ : List Token) : Type 0 where

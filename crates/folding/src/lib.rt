@@ -1,10 +1,10 @@
 // Folding of tokens in three lent arrays, in place.
 ghost use mathlib.Core.Path.{_≡_};
-ghost use Prim.Native.Nat.{ℕ, _+_, _<_, _≤_, min};
+ghost use Prim.Native.Nat.{ℕ, _+_, _^_, _<_, _≤_, min};
 ghost use lib.ListN.{length, getD, set, take, drop};
 ghost use Rattle.token.specs.Token.{Token, token, rows, Room, at as tokenAt};
 ghost use Rattle.folding.specs.Folding.{paired, fold7, count, seven, isMaj, concat, preProcess};
-ghost use Rattle.folding.specs.State.{Latest, Joined, Apart, Counted, Stepped, Turned, joinsAt, Took, Short};
+ghost use Rattle.folding.specs.State.{Latest, Joined, Apart, Counted, partnerCame, sevenCame, Stepped, Turned, joinsAt, Took, Short};
 
 const DIM: u8 = 4;
 
@@ -79,6 +79,44 @@ fn join(
     w
 }
 
+// A partner came, and `at` tokens are left: it pairs with a 7, or waits for one.
+fn partner_came(o: Out, at: usize) -> Out
+    requires { ⌜ o .partners + 1 < 2 ^ 64 ⌝ }
+    ensures { λ r. ⌜ r ≡ partnerCame o at ⌝ }
+{
+    if o.sevens == 0 {
+        return Out {
+            at,
+            partners: o.partners + 1,
+            sevens: o.sevens,
+        };
+    }
+    Out {
+        at,
+        partners: o.partners,
+        sevens: o.sevens - 1,
+    }
+}
+
+// The same for a 7.
+fn seven_came(o: Out, at: usize) -> Out
+    requires { ⌜ o .sevens + 1 < 2 ^ 64 ⌝ }
+    ensures { λ r. ⌜ r ≡ sevenCame o at ⌝ }
+{
+    if o.partners == 0 {
+        return Out {
+            at,
+            partners: o.partners,
+            sevens: o.sevens + 1,
+        };
+    }
+    Out {
+        at,
+        partners: o.partners - 1,
+        sevens: o.sevens,
+    }
+}
+
 // Token i is taken.
 fn step(kinds: &mut [u8], poss: &mut [u16], lens: &mut [u16], o: Out, i: usize, m: u8, r: u8) -> Out
     requires { ⌜ (o .at ≤ i) × Room (i + 1) (now kinds) (now poss) (now lens) ⌝ }
@@ -91,35 +129,11 @@ fn step(kinds: &mut [u8], poss: &mut [u16], lens: &mut [u16], o: Out, i: usize, 
     let sevens = o.sevens;
     if k == m {
         let e = join(kinds, poss, lens, w, i, SEVEN, sevens, r);
-        return if sevens == 0 {
-            Out {
-                at: e,
-                partners: partners + 1,
-                sevens,
-            }
-        } else {
-            Out {
-                at: e,
-                partners,
-                sevens: sevens - 1,
-            }
-        };
+        return partner_came(o, e);
     }
     if k == SEVEN {
         let e = join(kinds, poss, lens, w, i, m, partners, r);
-        return if partners == 0 {
-            Out {
-                at: e,
-                partners,
-                sevens: sevens + 1,
-            }
-        } else {
-            Out {
-                at: e,
-                partners: partners - 1,
-                sevens,
-            }
-        };
+        return seven_came(o, e);
     }
     token::copy(kinds, poss, lens, w, i);
     Out {
