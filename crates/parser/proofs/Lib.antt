@@ -1,0 +1,6 @@
+-- What several proofs use.
+mod Lists
+mod Rows
+mod Six
+mod Effects
+mod Walk

@@ -1,0 +1,2 @@
+pub mod Parser
+pub mod State

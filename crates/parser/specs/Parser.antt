@@ -1,0 +1,143 @@
+-- From tokens to expressions: the root, the expressions and the errors of a list of tokens, in one walk over it.
+use mathlib.Core.Bool.{Bool, true, false, cond}
+use mathlib.Core.List.{List, [], _∷_, _++_}
+use Prim.Native.Nat.{ℕ, zero, suc}
+use lib.Dec.{eqb}
+use lib.IntN.{ℤ, pos}
+use lib.ListN.{drop}
+use Rattle.chord.specs.declared.note.OptionalNote.the-variants as optional
+use Rattle.chord.specs.declared.note.OptionalNote.{OptionalNote}
+use Rattle.expression.specs.ParserError.{numbersOf}
+use Rattle.expression.specs.declared.expression.Exp.the-variants.{Power, Bass, Maj, Maj7, Minor, HalfDim, Dim, Dim7, Alt, Aug, Sus, Extension, Add, Omit, SlashBass}
+use Rattle.expression.specs.declared.expression.Exp.{Exp}
+use Rattle.expression.specs.declared.parser_error.ParserError.the-variants.{MissingRootNote}
+use Rattle.step.specs.Next.{isSign, nextOf, noteIn, signIn}
+use Rattle.step.specs.Step.{bracketKind, insideOf, stepOf}
+use Rattle.step.specs.declared.context.Context.the-variants as context
+use Rattle.step.specs.declared.context.Context.{Context}
+use Rattle.step.specs.declared.effect.Effect.{Effect}
+use Rattle.step.specs.declared.effect.Gains.the-variants as gains
+use Rattle.step.specs.declared.effect.Gains.{Gains}
+use Rattle.step.specs.declared.effect.Here.{Here}
+use Rattle.step.specs.declared.effect.OptionalError.the-variants as error
+use Rattle.step.specs.declared.effect.OptionalError.{OptionalError}
+use Rattle.step.specs.declared.next.Ahead.{Ahead}
+use Rattle.step.specs.declared.next.Next.{Next}
+use Rattle.step.specs.declared.step.Bracket.the-variants.{Opens, Closes, Ends, Other}
+use Rattle.step.specs.declared.step.Bracket.{Bracket}
+use Rattle.token.specs.Token.{Token, at, typeOf}
+use Rattle.token.specs.declared.TokenType.{TokenType}
+
+-- what has been found so far, and how many of the tokens to come are taken already; an error is four numbers
+pub record Parsing : Type 0 where
+  pub skip : ℕ
+  pub count : ℤ
+  pub context : Context
+  pub errs : List ℕ
+  pub exps : List Exp
+
+abbrev pub skipping : ℕ → Parsing → Parsing
+skipping n s = record { skip = n; count = s .count; context = s .context; errs = s .errs; exps = s .exps }
+
+abbrev pub gainsOf : Gains → List Exp
+gainsOf gains.None = []
+gainsOf (gains.One e) = e ∷ []
+gainsOf (gains.Two e f) = e ∷ f ∷ []
+
+abbrev pub errorOf : OptionalError → List ℕ
+errorOf error.None = []
+errorOf (error.Some e) = numbersOf e
+
+-- a token had the effect e
+abbrev pub applied : Effect → Parsing → Parsing
+applied e s =
+    record { skip = e .taken; count = e .count; context = e .context; errs = s .errs ++ errorOf (e .error); exps = s .exps ++ gainsOf (e .gains) }
+
+-- is it the extension 6?
+abbrev pub isSix : Exp → Bool
+isSix Power = false
+isSix Bass = false
+isSix Maj = false
+isSix Maj7 = false
+isSix Minor = false
+isSix HalfDim = false
+isSix Dim = false
+isSix Dim7 = false
+isSix Alt = false
+isSix Aug = false
+isSix (Sus i) = false
+isSix (Extension i p) = eqb i 11
+isSix (Add i p) = false
+isSix (Omit i p) = false
+isSix (SlashBass n) = false
+
+-- is the last one the extension 6? b is the answer where there is none
+unfoldable pub lastSix : Bool → List Exp → Bool
+lastSix b [] = b
+lastSix b (e ∷ es) = lastSix (isSix e) es
+
+abbrev pub hereOf : Token → Parsing → Here
+hereOf t s = record { pos = t .pos; len = t .len; count = s .count; context = s .context; six = lastSix false (s .exps) }
+
+abbrev pub nextAt : List Token → ℕ → Next
+nextAt ts i = nextOf (typeOf (at ts i .kind))
+
+abbrev pub aheadOf : List Token → Ahead
+aheadOf ts = record { first = nextAt ts 0; second = nextAt ts 1; third = nextAt ts 2; pos = at ts 0 .pos; pos2 = at ts 1 .pos }
+
+-- "A bracket reads tokens, and a token may open a bracket inside it": the open brackets are a list of their positions, innermost first
+abbrev pub effectAt : List ℕ → TokenType → Here → Ahead → Effect
+effectAt [] k h a = stepOf k h a
+effectAt (q ∷ qs) k h a = insideOf (bracketKind k) q k h a
+
+abbrev pub opens : Bracket → Bool
+opens Opens = true
+opens Closes = false
+opens Ends = false
+opens Other = false
+
+abbrev pub ends : Bracket → Bool
+ends Opens = false
+ends Closes = true
+ends Ends = true
+ends Other = false
+
+abbrev pub enter : Bracket → ℕ → List ℕ → List ℕ
+enter b p stk = cond (opens b) (p ∷ stk) stk
+
+abbrev pub leave : Bracket → List ℕ → List ℕ
+leave b stk = cond (ends b) (drop 1 stk) stk
+
+abbrev pub bracketOf : Token → Bracket
+bracketOf t = bracketKind (typeOf (t .kind))
+
+-- the open brackets and what has been found after the token t, before the tokens ts; nothing, where t is taken already
+abbrev pub stackTurn : ℕ → List ℕ → Token → List ℕ
+stackTurn zero stk t = enter (bracketOf t) (t .pos) (leave (bracketOf t) stk)
+stackTurn (suc n) stk t = stk
+
+abbrev pub turn : ℕ → List ℕ → Parsing → Token → List Token → Parsing
+turn zero stk s t ts = applied (effectAt stk (typeOf (t .kind)) (hereOf t s) (aheadOf ts)) s
+turn (suc n) stk s t ts = skipping n s
+
+unfoldable pub walk : List ℕ → Parsing → List Token → Parsing
+walk stk s [] = skipping 0 s
+walk stk s (t ∷ ts) = walk (stackTurn (s .skip) stk t) (turn (s .skip) stk s t ts) ts
+
+-- the root, with its sign
+abbrev pub rootOf : List Token → OptionalNote
+rootOf ts = noteIn (nextAt ts 0) (signIn (nextAt ts 1))
+
+-- "The first token is consumed even when it is no note."
+abbrev pub rootEffect : OptionalNote → Next → Effect
+rootEffect (optional.Some n) nx =
+    record { taken = cond (isSign nx) 1 0; count = pos 0; context = context.None; gains = gains.None; error = error.None }
+rootEffect optional.None nx =
+    record { taken = 0; count = pos 0; context = context.None; gains = gains.None; error = error.Some MissingRootNote }
+
+abbrev pub blank : Parsing
+blank = record { skip = 0; count = pos 0; context = context.None; errs = []; exps = [] }
+
+-- all that is found in the tokens, but for the root
+abbrev pub parseOf : List Token → Parsing
+parseOf ts = walk [] (applied (rootEffect (rootOf ts) (nextAt ts 1)) blank) (drop 1 ts)

@@ -1,0 +1,139 @@
+-- The parser's state as values: what the code's struct and its lent arrays stand for, and what the code keeps true of them.
+use mathlib.Core.Bool.{false}
+use mathlib.Core.List.{List, [], _∷_, _++_, map}
+use mathlib.Core.Path.{_≡_}
+use Prim.Native.Nat.{ℕ, _+_, _*_, _≤_, _<_}
+use lib.ListN.{length, take, drop, getD}
+use lib.Signed.{mag}
+use Rattle.expression.specs.Expression.{expOf}
+use Rattle.expression.specs.declared.expression.Exp.{Exp}
+use Rattle.step.specs.Laws.{gainsCount, susBit}
+use Rattle.step.specs.Next.{nextOf}
+use Rattle.step.specs.Step.{bracketKind, insideOf, stepOf}
+use Rattle.step.specs.declared.effect.Effect.{Effect}
+use Rattle.step.specs.declared.effect.Here.{Here}
+use Rattle.step.specs.declared.next.Ahead.{Ahead}
+use Rattle.step.specs.declared.next.Next.{Next}
+use Rattle.step.specs.declared.step.Bracket.{Bracket}
+use Rattle.token.specs.Token.{Token, Ranged, rows, typeOf}
+use Rattle.parser.specs.Parser.{Parsing, applied, enter, lastSix, parseOf, rootOf, skipping, walk}
+use Rattle.parser.specs.declared.parser.Ast.{Ast}
+use Rattle.parser.specs.declared.state.State.{State}
+
+-- the kind and the position of the token at i, as `at` has them
+abbrev pub nextIn : List ℕ → ℕ → Next
+nextIn ks i = nextOf (typeOf (getD ks i 0))
+
+abbrev pub aheadIn : List ℕ → List ℕ → ℕ → Ahead
+aheadIn ks ps i = record { first = nextIn ks i; second = nextIn ks (i + 1); third = nextIn ks (i + 2); pos = getD ps i 0; pos2 = getD ps (i + 1) 0 }
+
+abbrev pub bracketIn : List ℕ → ℕ → Bracket
+bracketIn ks i = bracketKind (typeOf (getD ks i 0))
+
+-- the expressions that the first n numbers of an array stand for
+abbrev pub expsOf : ℕ → List ℕ → List Exp
+expsOf n xs = map expOf (take n xs)
+
+abbrev pub view : State → List ℕ → List ℕ → Parsing
+view st es xs =
+    record { skip = 0; count = st .count; context = st .context; errs = take (4 * st .errors) es; exps = expsOf (st .exps) xs }
+
+-- what the token step is told of the token at st
+abbrev pub hereIn : List ℕ → List ℕ → List ℕ → State → Here
+hereIn ps ls xs st =
+    record { pos = getD ps (st .at) 0; len = getD ls (st .at) 0; count = st .count; context = st .context; six = lastSix false (expsOf (st .exps) xs) }
+
+-- the effect of the token at st, outside any bracket, and inside the one that was opened at q
+abbrev pub outsideIn : List ℕ → List ℕ → List ℕ → List ℕ → State → Effect
+outsideIn ks ps ls xs st = stepOf (typeOf (getD ks (st .at) 0)) (hereIn ps ls xs st) (aheadIn ks ps (st .at + 1))
+
+abbrev pub insideIn : List ℕ → List ℕ → List ℕ → List ℕ → State → ℕ → Effect
+insideIn ks ps ls xs st q = insideOf (bracketIn ks (st .at)) q (typeOf (getD ks (st .at) 0)) (hereIn ps ls xs st) (aheadIn ks ps (st .at + 1))
+
+-- every token that was taken gave at most one error, one expression and one bracket; a sus still owes its expression
+pub record Ready (st : State) : Type 0 where
+  pub small : st .at ≤ 259
+  pub few : st .errors ≤ st .at
+  pub fewer : st .exps + susBit (st .context) ≤ st .at
+  pub bound : mag (st .count) ≤ st .at
+
+-- e is an effect that a token can have on st
+pub record Fits (st : State) (e : Effect) : Type 0 where
+  pub gained : gainsCount (e .gains) + susBit (e .context) ≤ 1 + susBit (st .context)
+  pub counted : mag (e .count) ≤ mag (st .count) + 1
+  pub taken : e .taken ≤ 2
+
+-- room for what 257 tokens can give
+pub record Space (es xs : List ℕ) : Type 0 where
+  pub errs : 1028 ≤ length es
+  pub exps : 257 ≤ length xs
+
+-- three arrays of the same length hold at most 257 tokens, with numbers that can be added
+pub record Tokens (ks ps ls : List ℕ) : Type 0 where
+  pub few : length ks ≤ 257
+  pub poss : length ps ≡ length ks
+  pub lens : length ls ≡ length ks
+  pub ranged : Ranged 1000 1000 (rows ks ps ls)
+
+-- the first n errors became the first r, with `more` behind them, and the rest of the array is untouched
+pub record Stored (n r : ℕ) (more : List ℕ) (es es′ : List ℕ) : Type 0 where
+  pub list : take (4 * r) es′ ≡ take (4 * n) es ++ more
+  pub rest : drop (4 * r) es′ ≡ drop (4 * r) es
+  pub least : n ≤ r
+  pub most : r ≤ n + 1
+
+-- and the same of the expressions
+pub record Gained (n r : ℕ) (more : List Exp) (xs xs′ : List ℕ) : Type 0 where
+  pub list : expsOf r xs′ ≡ expsOf n xs ++ more
+  pub rest : drop r xs′ ≡ drop r xs
+  pub count : r ≡ n + length more
+
+-- the lists have grown from st to r, and what lies behind them is untouched
+pub record Kept (st r : State) (es es′ xs xs′ : List ℕ) : Type 0 where
+  pub more : st .errors ≤ r .errors
+  pub gains : st .exps ≤ r .exps
+  pub rest : drop (4 * r .errors) es′ ≡ drop (4 * r .errors) es
+  pub others : drop (r .exps) xs′ ≡ drop (r .exps) xs
+
+-- the token at st had the effect e
+pub record Did (e : Effect) (st r : State) (es es′ xs xs′ : List ℕ) : Type 0 where
+  pub same : view r es′ xs′ ≡ skipping 0 (applied e (view st es xs))
+  pub kept : Kept st r es es′ xs xs′
+  pub moved : r .at ≡ st .at + 1 + e .taken
+  pub ready : Ready r
+
+-- going on from s with the tokens ts and the brackets `q stk` open is going on from r with `stk` open
+pub record Went (T : List Token) (q : List ℕ → List ℕ) (s : Parsing) (ts : List Token) (r : State) (es xs : List ℕ) : Type 0 where
+  pub same : (stk : List ℕ) → walk (q stk) s ts ≡ walk stk (view r es xs) (drop (r .at) T)
+  pub ready : Ready r
+
+-- the token at st, with its effect e, and the bracket that it opens were taken
+pub record Took (ks ps ls : List ℕ) (e : Effect) (st r : State) (es es′ xs xs′ : List ℕ) : Type 0 where
+  pub went : Went (rows ks ps ls) (enter (bracketIn ks (st .at)) (getD ps (st .at) 0)) (applied e (view st es xs)) (drop (st .at + 1) (rows ks ps ls)) r es′ xs′
+  pub kept : Kept st r es es′ xs xs′
+  pub forward : st .at < r .at
+
+-- the rest of the bracket that was opened at q was taken
+pub record Bracketed (ks ps ls : List ℕ) (q : ℕ) (st r : State) (es es′ xs xs′ : List ℕ) : Type 0 where
+  pub went : Went (rows ks ps ls) (λ stk. q ∷ stk) (view st es xs) (drop (st .at) (rows ks ps ls)) r es′ xs′
+  pub kept : Kept st r es es′ xs xs′
+  pub forward : st .at ≤ r .at
+
+-- tokens were taken outside any bracket
+pub record Advanced (ks ps ls : List ℕ) (st r : State) (es es′ xs xs′ : List ℕ) : Type 0 where
+  pub same : walk [] (view st es xs) (drop (st .at) (rows ks ps ls)) ≡ walk [] (view r es′ xs′) (drop (r .at) (rows ks ps ls))
+  pub kept : Kept st r es es′ xs xs′
+  pub ready : Ready r
+
+-- all tokens from st on were taken
+pub record Whole (ks ps ls : List ℕ) (st r : State) (es es′ xs xs′ : List ℕ) : Type 0 where
+  pub same : view r es′ xs′ ≡ walk [] (view st es xs) (drop (st .at) (rows ks ps ls))
+  pub kept : Kept st r es es′ xs xs′
+
+-- the tokens were read: r and the lent lists hold what the definition says, and what lies behind it is untouched
+pub record Parsed (ts : List Token) (r : Ast) (es es′ xs xs′ : List ℕ) : Type 0 where
+  pub root : r .root ≡ rootOf ts
+  pub errs : take (4 * r .errors) es′ ≡ parseOf ts .errs
+  pub rest : drop (4 * r .errors) es′ ≡ drop (4 * r .errors) es
+  pub exps : expsOf (r .exps) xs′ ≡ parseOf ts .exps
+  pub others : drop (r .exps) xs′ ≡ drop (r .exps) xs
