@@ -118,12 +118,16 @@ fn put_exps(out: &mut [u8], used: usize, exps: &[u32]) -> usize {
     u
 }
 
+fn put_short(out: &mut [u8], used: usize, n: u16) -> usize {
+    put_number(out, used, n as u64)
+}
+
 // Appends the numbers of the errors, four for each.
 fn put_errors(out: &mut [u8], used: usize, errs: &[u16]) -> usize {
     let mut u = put_number(out, used, (errs.len() / 4) as u64);
     let mut i = 0;
     while i < errs.len() {
-        u = put_number(out, u, errs[i] as u64);
+        u = put_short(out, u, errs[i]);
         i += 1;
     }
     u
@@ -141,8 +145,9 @@ fn put_parse(out: &mut [u8], used: usize, text: &[u8]) -> usize
     let n = lexer::scan_tokens(text, &mut kinds, &mut poss, &mut lens);
     let e = folding::pre_process(&mut kinds, &mut poss, &mut lens, n);
     let ast = parser::parser::parse(&kinds[..e], &poss[..e], &lens[..e], &mut errs, &mut exps);
+    let root = ast.root;
     let u = put_number(out, used, 0);
-    let v = put_root(out, u, ast.root);
+    let v = put_root(out, u, root);
     let w = put_exps(out, v, &exps[..ast.exps]);
     put_errors(out, w, &errs[..4 * ast.errors])
 }

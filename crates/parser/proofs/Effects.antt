@@ -53,6 +53,8 @@ did-effect st e {n} {m} {es} {es′} {xs} {xs′} s g ready h fits =
         few = omega (arith, s .most, ready .few);
         fewer = omega (arith, k, fits .gained, ready .fewer);
         bound = omega (arith, fits .counted, ready .bound);
+        errs = omega (arith, s .most, ready .few);
+        exps = omega (arith, k, fits .gained, ready .fewer);
       };
     }
 
@@ -83,7 +85,7 @@ abbrev pub start : State
 start = record { at = 0; count = pos 0; context = context.None; errors = 0; exps = 0 }
 
 pub ready-start : Ready start
-ready-start = record { small = omega arith; few = omega arith; fewer = omega arith; bound = omega arith }
+ready-start = omega arith
 
 pub fits-root : (n : OptionalNote) (nx : Next) {e : Effect} → e ≡ rootEffect n nx → Fits start e
 fits-root n nx {e} h = subst (Fits start) (sym h) (by n)

@@ -1,6 +1,6 @@
 -- What several proofs use.
 mod Lists
-mod Rows
+pub mod Rows
 mod Six
 mod Effects
 mod Walk

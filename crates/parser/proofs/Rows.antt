@@ -1,16 +1,16 @@
 -- The tokens that three arrays of one length hold, from a place on.
 use mathlib.Core.List.{List, [], _∷_}
-use mathlib.Core.Path.{_≡_, refl, sym, ap, _∙_}
+use mathlib.Core.Path.{_≡_, refl, sym, ap, subst, _∙_}
 use Prim.Native.Nat.{ℕ, zero, suc, _+_, _≤_, _<_}
 use native.Mathlib.Nat.{not-suc-le-zero, le-of-suc-le-suc}
 use native.Mathlib.Omega.{arith}
-use lib.ListN.{length, drop, getD, List·getD-eq-default}
-use lib.Seq.{getD-drop}
+use lib.ListN.{length, take, drop, getD, List·getD-eq-default}
+use lib.Seq.{getD-drop, length-take-le}
 use Rattle.step.specs.Next.{nextOf}
 use Rattle.step.specs.declared.next.Next.the-variants.{Other}
-use Rattle.token.specs.Token.{Token, Ranged, at, rows, token, typeOf}
+use Rattle.token.specs.Token.{Token, Ranged, Room, at, rows, token, typeOf}
 use Rattle.parser.specs.Parser.{aheadOf, nextAt}
-use Rattle.parser.specs.State.{aheadIn, nextIn}
+use Rattle.parser.specs.State.{Tokens, aheadIn, nextIn}
 
 abbrev tokenIn : List ℕ → List ℕ → List ℕ → ℕ → Token
 tokenIn ks ps ls i = token (getD ks i 0) (getD ps i 0) (getD ls i 0)
@@ -70,3 +70,19 @@ module _ (ks ps ls : List ℕ) (even : length ps ≡ length ks) (flat : length l
 pub next-none : (ks : List ℕ) (i : ℕ) → length ks ≤ i → nextIn ks i ≡ Other
 unfolding typeOf
 next-none ks i h = ap (λ (n : ℕ). nextOf (typeOf n)) (List·getD-eq-default ks 0 h)
+
+rows-take : (n : ℕ) (ks ps ls : List ℕ) → rows (take n ks) (take n ps) (take n ls) ≡ take n (rows ks ps ls)
+unfolding rows
+rows-take zero ks ps ls = refl
+rows-take (suc n) [] ps ls = refl
+rows-take (suc n) (k ∷ ks) [] ls = refl
+rows-take (suc n) (k ∷ ks) (p ∷ ps) [] = refl
+rows-take (suc n) (k ∷ ks) (p ∷ ps) (l ∷ ls) = ap (λ (r : List Token). token k p l ∷ r) (rows-take n ks ps ls)
+
+-- the first n tokens of three arrays can be read
+pub tokens-first : (n : ℕ) (ks ps ls : List ℕ) → n ≤ 257 → Room n ks ps ls → Ranged 1000 1000 (take n (rows ks ps ls)) → Tokens (take n ks) (take n ps) (take n ls)
+tokens-first n ks ps ls h room r =
+    let a = length-take-le n ks (room .kinds) in
+    let b = length-take-le n ps (room .poss) in
+    let c = length-take-le n ls (room .lens) in
+    record { few = omega (arith, a); poss = b ∙ sym a; lens = c ∙ sym a; ranged = subst (Ranged 1000 1000) (sym (rows-take n ks ps ls)) r }

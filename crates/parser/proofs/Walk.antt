@@ -164,7 +164,7 @@ module _ (ks ps ls : List ℕ) (even : length ps ≡ length ks) (flat : length l
   pub whole : {st r : State} {es es′ xs xs′ : List ℕ} → length ks ≤ r .at → Advanced ks ps ls st r es es′ xs xs′ → Whole ks ps ls st r es es′ xs xs′
   unfolding walk
   whole {st} {r} {es} {es′} {xs} {xs′} h a =
-      record { same = sym (a .same ∙ ap (λ (l : List Token). walk [] (view r es′ xs′) l) (drop-none ks ps ls (r .at) h)); kept = a .kept }
+      record { same = sym (a .same ∙ ap (λ (l : List Token). walk [] (view r es′ xs′) l) (drop-none ks ps ls (r .at) h)); kept = a .kept; ready = a .ready }
 
   -- the root, and then all tokens behind it
   pub parsed : {first second : Next} {m : RootModifier} {root : OptionalNote} {e : Effect} {u r : State} {es es₁ es₂ xs xs₁ xs₂ : List ℕ}
@@ -178,4 +178,4 @@ module _ (ks ps ls : List ℕ) (even : length ps ≡ length ks) (flat : length l
       let ee : e ≡ rootEffect (rootOf T) (nextAt T 1) = he ∙ (λ i. rootEffect (er i) (en i)) in
       let v : view r es₂ xs₂ ≡ parseOf T = w .same ∙ sym (did-walk T [] d) ∙ ap (λ (f : Effect). walk [] (applied f blank) (drop 1 T)) ee in
       let k = kept-then (d .kept) (w .kept) in
-      record { root = er; errs = ap (λ (s : Parsing). s .errs) v; rest = k .rest; exps = ap (λ (s : Parsing). s .exps) v; others = k .others }
+      record { root = er; errs = ap (λ (s : Parsing). s .errs) v; rest = k .rest; exps = ap (λ (s : Parsing). s .exps) v; others = k .others; few = w .ready .errs; fewer = w .ready .exps }

@@ -56,6 +56,8 @@ pub record Ready (st : State) : Type 0 where
   pub few : st .errors ≤ st .at
   pub fewer : st .exps + susBit (st .context) ≤ st .at
   pub bound : mag (st .count) ≤ st .at
+  pub errs : st .errors ≤ 257
+  pub exps : st .exps ≤ 257
 
 -- e is an effect that a token can have on st
 pub record Fits (st : State) (e : Effect) : Type 0 where
@@ -129,6 +131,7 @@ pub record Advanced (ks ps ls : List ℕ) (st r : State) (es es′ xs xs′ : Li
 pub record Whole (ks ps ls : List ℕ) (st r : State) (es es′ xs xs′ : List ℕ) : Type 0 where
   pub same : view r es′ xs′ ≡ walk [] (view st es xs) (drop (st .at) (rows ks ps ls))
   pub kept : Kept st r es es′ xs xs′
+  pub ready : Ready r
 
 -- the tokens were read: r and the lent lists hold what the definition says, and what lies behind it is untouched
 pub record Parsed (ts : List Token) (r : Ast) (es es′ xs xs′ : List ℕ) : Type 0 where
@@ -137,3 +140,5 @@ pub record Parsed (ts : List Token) (r : Ast) (es es′ xs xs′ : List ℕ) : T
   pub rest : drop (4 * r .errors) es′ ≡ drop (4 * r .errors) es
   pub exps : expsOf (r .exps) xs′ ≡ parseOf ts .exps
   pub others : drop (r .exps) xs′ ≡ drop (r .exps) xs
+  pub few : r .errors ≤ 257
+  pub fewer : r .exps ≤ 257
