@@ -13,7 +13,8 @@ use mir.Val.{ofZ, toZ}
 use Rattle.chord.specs.declared.note.OptionalNote.the-variants as optional
 use Rattle.chord.specs.declared.note.OptionalNote.{OptionalNote}
 use Rattle.expression.specs.declared.expression.Exp.{Exp}
-use Rattle.step.specs.Laws.{Small, gainsCount, inside-small, step-small}
+use Rattle.step.proofs.Laws.{inside-small, step-small}
+use Rattle.step.specs.Bounds.{Small, gainsCount}
 use Rattle.step.specs.Step.{bracketKind, insideOf, stepOf}
 use Rattle.step.specs.Next.{isSign}
 use Rattle.step.specs.declared.context.Context.the-variants as context

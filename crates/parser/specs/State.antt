@@ -7,7 +7,7 @@ use lib.ListN.{length, take, drop, getD}
 use lib.Signed.{mag}
 use Rattle.expression.specs.Expression.{expOf}
 use Rattle.expression.specs.declared.expression.Exp.{Exp}
-use Rattle.step.specs.Laws.{gainsCount, susBit}
+use Rattle.step.specs.Bounds.{gainsCount, susBit}
 use Rattle.step.specs.Next.{nextOf}
 use Rattle.step.specs.Step.{bracketKind, insideOf, stepOf}
 use Rattle.step.specs.declared.effect.Effect.{Effect}

@@ -3,7 +3,7 @@ ghost use mathlib.Core.List.{[], _∷_};
 ghost use mathlib.Core.Path.{_≡_};
 ghost use Prim.Native.Nat.{_+_, _*_, _≤_, _<_};
 ghost use lib.ListN.{length};
-ghost use Rattle.step.specs.Laws.{gainsCount};
+ghost use Rattle.step.specs.Bounds.{gainsCount};
 ghost use Rattle.parser.specs.Parser.{errorOf, gainsOf};
 ghost use Rattle.parser.specs.State.{Ready, Fits, Space, Stored, Gained, Did};
 use crate::state::State;

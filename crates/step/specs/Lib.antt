@@ -2,4 +2,4 @@ pub mod Context
 pub mod Effect
 pub mod Interval
 pub mod Step
-pub mod Laws
+pub mod Bounds

@@ -2,7 +2,7 @@
 use Rattle.parser.proofs.Lists.{gained-none, gained-then}
 use Rattle.parser.proofs.apply.push_exps.Statement.{statement}
 use Rattle.parser.specs.Parser.{gainsOf}
-use Rattle.step.specs.Laws.{gainsCount}
+use Rattle.step.specs.Bounds.{gainsCount}
 use borrow.Author.Needs.{needs}
 use mathlib.Core.Path.{_∙_, ap}
 use native.Mathlib.Omega.{arith}

@@ -10,59 +10,15 @@ use lib.IntN.{ℤ, pos, negsuc, _+ℤ_, _-ℤ_}
 use lib.{Dec.eqb, Dec.ltb, ListN.getD, Signed.ltZ, Signed.mag}
 use Rattle.chord.specs.declared.note.OptionalNote.{OptionalNote, the-variants.Some, the-variants.None}
 use Rattle.chord.specs.declared.note.RootModifier.{RootModifier, the-variants.Natural, the-variants.Sharp, the-variants.Flat}
-use Rattle.expression.specs.declared.expression.Exp.the-variants.{Power, Bass, Maj, Maj7, Minor, HalfDim, Dim, Dim7, Alt, Aug, Sus, Extension, Add, Omit, SlashBass}
-use Rattle.expression.specs.declared.expression.Exp.{Exp}
 use Rattle.token.specs.declared.TokenType.the-variants as type
 use Rattle.token.specs.declared.TokenType.{TokenType}
-use Rattle.step.specs.{Context.memberOf, Context.onComma, Context.startGroup, Effect.taking, Effect.within, Interval.intervalOf, Interval.rowOf}
+use Rattle.step.specs.{Bounds.Small, Bounds.Sound, Bounds.SoundGains, Bounds.susBit, Context.memberOf, Context.onComma, Context.startGroup, Effect.taking, Effect.within, Interval.intervalOf, Interval.rowOf}
 use Rattle.step.specs.Next.{isEnd, isMaj7, isNumber, isSign, noteIn, numberIn, signIn}
 use Rattle.step.specs.Step.{addInterval, addSigned, addTarget, insideOf, intervalAlone, isPower, lastly, modifierStep, noteStep, omitTarget, placed, sixNine, stepOf, susAllows}
 use Rattle.step.specs.declared.context.Context.the-variants as context
 use Rattle.step.specs.declared.context.GroupKind.the-variants as group
-use Rattle.step.specs.declared.effect.Gains.the-variants as gains
 use Rattle.step.specs.declared.step.Bracket.the-variants.{Opens, Closes, Ends, Other}
-use Rattle.step.specs.declared.{context.Context.Context, context.GroupKind.GroupKind, effect.Effect.Effect, effect.Gains.Gains, effect.Here.Here, next.Ahead.Ahead, next.Next.Next, step.Bracket.Bracket}
-
--- 1 where the state is sus
-abbrev pub susBit : Context → ℕ
-susBit context.None = 0
-susBit context.Sus = 1
-susBit (context.Group g) = 0
-
--- how many expressions are gained
-abbrev pub gainsCount : Gains → ℕ
-gainsCount gains.None = 0
-gainsCount (gains.One e) = 1
-gainsCount (gains.Two e f) = 2
-
--- what an effect does at most: only behind sus are there two expressions, and the state is not sus then
-pub record Small (h : Here) (e : Effect) : Type 0 where
-  pub gained : gainsCount (e .gains) + susBit (e .context) ≤ 1 + susBit (h .context)
-  pub counted : mag (e .count) ≤ mag (h .count) + 1
-  pub taken : e .taken ≤ 2
-
--- an interval is below 23, and no extension is #4
-abbrev pub Sound : Exp → Type 0
-Sound Power = Unit
-Sound Bass = Unit
-Sound Maj = Unit
-Sound Maj7 = Unit
-Sound Minor = Unit
-Sound HalfDim = Unit
-Sound Dim = Unit
-Sound Dim7 = Unit
-Sound Alt = Unit
-Sound Aug = Unit
-Sound (Sus i) = i < 23
-Sound (Extension i p) = (i < 23) × (eqb i 6 ≡ false)
-Sound (Add i p) = i < 23
-Sound (Omit i p) = i < 23
-Sound (SlashBass n) = Unit
-
-abbrev pub SoundGains : Gains → Type 0
-SoundGains gains.None = Unit
-SoundGains (gains.One e) = Sound e
-SoundGains (gains.Two e f) = Sound e × Sound f
+use Rattle.step.specs.declared.{context.Context.Context, context.GroupKind.GroupKind, effect.Effect.Effect, effect.Here.Here, next.Ahead.Ahead, next.Next.Next, step.Bracket.Bracket}
 
 -- both laws of an effect
 abbrev Good : Here → Effect → Type 0
