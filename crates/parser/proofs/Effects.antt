@@ -30,7 +30,7 @@ use Rattle.parser.specs.Parser.{Parsing, errorOf, gainsOf, rootEffect}
 use Rattle.parser.specs.State.{Did, Fits, Gained, Ready, Stored, aheadIn, hereIn, insideIn, outsideIn}
 use Rattle.parser.specs.declared.state.State.{State}
 
-gains-length : (g : Gains) → length (gainsOf g) ≡ gainsCount g
+pub gains-length : (g : Gains) → length (gainsOf g) ≡ gainsCount g
 gains-length None = refl
 gains-length (One e) = refl
 gains-length (Two e f) = refl

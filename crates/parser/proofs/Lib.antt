@@ -4,3 +4,4 @@ pub mod Rows
 mod Six
 mod Effects
 mod Walk
+pub mod Laws

@@ -1,2 +1,3 @@
 pub mod Parser
 pub mod State
+pub mod All
