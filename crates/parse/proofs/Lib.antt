@@ -1,0 +1,2 @@
+-- The paper's parse specimens.
+mod Specimens

@@ -1,0 +1,35 @@
+-- Document 01's specimens of parsing, from the bytes of the text to its expressions and errors, computed.
+use mathlib.Core.List.{List, [], _∷_}
+use mathlib.Core.Path.{_≡_, refl}
+use Prim.Native.Nat.{ℕ}
+use Rattle.expression.specs.declared.expression.Exp.the-variants.{Add, Extension, Omit}
+use Rattle.expression.specs.declared.expression.Exp.{Exp}
+use Rattle.folding.specs.Folding.{concat, count, foldOn, isMaj, join, preProcess}
+use Rattle.lexer.specs.Lexer.{elem, headOf, isDigit, isLetter, lex, signOf, tokensOf}
+use Rattle.lexer.specs.Text.{ascii}
+use Rattle.lexer.specs.Words.{longestOf, words}
+use Rattle.parser.specs.Parser.{lastSix, parseOf, walk}
+use Rattle.token.specs.Token.{typeOf}
+use Rattle.utf8.specs.Utf8.{bits, charOf, encode, isScalar}
+
+abbrev errors : List ℕ → List ℕ
+errors text = parseOf (preProcess (tokensOf text)) .errs
+
+abbrev expressions : List ℕ → List Exp
+expressions text = parseOf (preProcess (tokensOf text)) .exps
+
+-- "empty: kind 9", "`C)`: 15 at 2", "`C((`: 17 at 2, 16 at 3", "`C(/`: 14 at 3"
+refused : (errors [] ≡ 9 ∷ 0 ∷ 0 ∷ 0 ∷ [])
+    × (errors (ascii "C)") ≡ 15 ∷ 2 ∷ 0 ∷ 0 ∷ [])
+    × (errors (ascii "C((") ≡ 17 ∷ 2 ∷ 0 ∷ 0 ∷ 16 ∷ 3 ∷ 0 ∷ 0 ∷ [])
+    × (errors (ascii "C(/") ≡ 14 ∷ 3 ∷ 0 ∷ 0 ∷ [])
+unfolding elem headOf isDigit isLetter lex signOf longestOf words concat count foldOn isMaj join lastSix walk typeOf bits charOf encode isScalar
+refused = (refl, refl, refl, refl)
+
+-- `C(omit3,)5` and `C6/9`: the group outlives its bracket, and the 9 behind a 6 is added
+accepted : (errors (ascii "C(omit3,)5") ≡ [])
+    × (expressions (ascii "C(omit3,)5") ≡ Omit 4 6 ∷ Omit 8 9 ∷ [])
+    × (errors (ascii "C6/9") ≡ [])
+    × (expressions (ascii "C6/9") ≡ Extension 11 1 ∷ Add 17 3 ∷ [])
+unfolding elem headOf isDigit isLetter lex signOf longestOf words concat count foldOn isMaj join lastSix walk typeOf bits charOf encode isScalar
+accepted = (refl, refl, refl, refl)
