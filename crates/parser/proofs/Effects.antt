@@ -16,14 +16,14 @@ use Rattle.expression.specs.declared.expression.Exp.{Exp}
 use Rattle.step.proofs.Laws.{inside-small, step-small}
 use Rattle.step.specs.Bounds.{Small, gainsCount}
 use Rattle.step.specs.Step.{bracketKind, insideOf, stepOf}
-use Rattle.step.specs.Next.{isSign}
+use Rattle.behind.specs.Next.{isSign}
 use Rattle.step.specs.declared.context.Context.the-variants as context
 use Rattle.step.specs.declared.effect.Effect.{Effect}
 use Rattle.step.specs.declared.effect.Gains.the-variants.{None, One, Two}
 use Rattle.step.specs.declared.effect.Gains.{Gains}
 use Rattle.step.specs.declared.effect.Here.{Here}
-use Rattle.step.specs.declared.next.Ahead.{Ahead}
-use Rattle.step.specs.declared.next.Next.{Next}
+use Rattle.behind.specs.declared.Ahead.{Ahead}
+use Rattle.behind.specs.declared.Next.{Next}
 use Rattle.token.specs.Token.{typeOf}
 use Rattle.token.specs.declared.TokenType.{TokenType}
 use Rattle.parser.specs.Parser.{Parsing, errorOf, gainsOf, rootEffect}

@@ -9,10 +9,10 @@ use lib.ListN.{length, drop, getD}
 use lib.Seq.{drop-drop, drop-nil}
 use Rattle.chord.specs.declared.note.OptionalNote.{OptionalNote}
 use Rattle.chord.specs.declared.note.RootModifier.{RootModifier}
-use Rattle.step.specs.Next.{noteIn, signIn}
+use Rattle.behind.specs.Next.{noteIn, signIn}
 use Rattle.step.specs.declared.effect.Effect.{Effect}
-use Rattle.step.specs.declared.next.Ahead.{Ahead}
-use Rattle.step.specs.declared.next.Next.{Next}
+use Rattle.behind.specs.declared.Ahead.{Ahead}
+use Rattle.behind.specs.declared.Next.{Next}
 use Rattle.step.specs.declared.step.Bracket.the-variants.{Opens, Closes, Ends, Other}
 use Rattle.step.specs.declared.step.Bracket.{Bracket}
 use Rattle.token.specs.Token.{Token, rows, typeOf}

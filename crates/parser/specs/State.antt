@@ -8,12 +8,12 @@ use lib.Signed.{mag}
 use Rattle.expression.specs.Expression.{expOf}
 use Rattle.expression.specs.declared.expression.Exp.{Exp}
 use Rattle.step.specs.Bounds.{gainsCount, susBit}
-use Rattle.step.specs.Next.{nextOf}
+use Rattle.behind.specs.Next.{nextOf}
 use Rattle.step.specs.Step.{bracketKind, insideOf, stepOf}
 use Rattle.step.specs.declared.effect.Effect.{Effect}
 use Rattle.step.specs.declared.effect.Here.{Here}
-use Rattle.step.specs.declared.next.Ahead.{Ahead}
-use Rattle.step.specs.declared.next.Next.{Next}
+use Rattle.behind.specs.declared.Ahead.{Ahead}
+use Rattle.behind.specs.declared.Next.{Next}
 use Rattle.step.specs.declared.step.Bracket.{Bracket}
 use Rattle.token.specs.Token.{Token, Ranged, rows, typeOf}
 use Rattle.parser.specs.Parser.{Parsing, applied, enter, lastSix, parseOf, rootOf, skipping, walk}

@@ -7,11 +7,11 @@ ghost use lib.Signed.{mag};
 ghost use Rattle.expression.specs.Expression.{expOf};
 ghost use Rattle.parser.specs.Parser.{isSix, lastSix};
 ghost use Rattle.parser.specs.State.{nextIn, aheadIn, expsOf, hereIn};
+use behind::Ahead;
+use behind::Next;
+use behind::next_of;
 use step::context::Context;
 use step::effect::Here;
-use step::next::Ahead;
-use step::next::Next;
-use step::next::next_of;
 use token::TokenType;
 
 // `at` is the next token; `errors` and `exps` count what stands in the lent lists.

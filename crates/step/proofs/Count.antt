@@ -16,17 +16,16 @@ across : (b : Bool) (x y n : ℕ) → x ≤ n → y ≤ n → mag (cond b (negsu
 across true x y n h k = h
 across false x y n h k = k
 
+-- one up or one down, a magnitude grows by one at most
+pub near : (z : ℤ) → (mag (z +ℤ pos 1) ≤ mag z + 1) × (mag (z -ℤ pos 1) ≤ mag z + 1)
+near (pos a) = (omega arith, across (ltb a 1) (1 - suc a) (a - 1) (a + 1) (omega arith) (omega arith))
+near (negsuc a) = (across (ltb 1 (suc a)) (suc a - 2) (1 - suc a) (a + 1) (omega arith) (omega arith), omega arith)
+
 room-up : (z : ℤ) → mag z < 1000 → SFits w16 (z +ℤ pos 1)
-room-up (pos a) h = record { sfits = omega arith }
-room-up (negsuc a) h =
-    let k : mag (negsuc a +ℤ pos 1) ≤ a + 1 = across (ltb 1 (suc a)) (suc a - 2) (1 - suc a) (a + 1) (omega arith) (omega arith) in
-    record { sfits = omega (arith, k) }
+room-up z h = record { sfits = omega (arith, near z .0) }
 
 room-down : (z : ℤ) → mag z < 1000 → SFits w16 (z -ℤ pos 1)
-room-down (pos a) h =
-    let k : mag (pos a -ℤ pos 1) ≤ a + 1 = across (ltb a 1) (1 - suc a) (a - 1) (a + 1) (omega arith) (omega arith) in
-    record { sfits = omega (arith, k) }
-room-down (negsuc a) h = record { sfits = omega arith }
+room-down z h = record { sfits = omega (arith, near z .1) }
 
 module _ (z : ℤ) (h : mag z < 1000) where
   kept : toZ w16 (ofZ w16 z) ≡ z

@@ -6,19 +6,21 @@ use mathlib.Mathlib.Data.Bool.Basic.{or-eq-false-eq-eq-false-and-eq-false as or-
 use Prim.Native.Nat.{ℕ, zero, suc, _+_, _≤_, _<_, max}
 use native.Mathlib.Omega.{arith}
 use borrow.Author.Tests.{eqb-false}
-use lib.IntN.{ℤ, pos, negsuc, _+ℤ_, _-ℤ_}
-use lib.{Dec.eqb, Dec.ltb, ListN.getD, Signed.ltZ, Signed.mag}
+use lib.IntN.{pos}
+use lib.{Dec.eqb, Dec.ltb, ListN.getD, Signed.ltZ}
 use Rattle.chord.specs.declared.note.OptionalNote.{OptionalNote, the-variants.Some, the-variants.None}
 use Rattle.chord.specs.declared.note.RootModifier.{RootModifier, the-variants.Natural, the-variants.Sharp, the-variants.Flat}
+use Rattle.behind.specs.declared.Ahead.{Ahead}
+use Rattle.behind.specs.declared.Next.{Next}
 use Rattle.token.specs.declared.TokenType.the-variants as type
 use Rattle.token.specs.declared.TokenType.{TokenType}
 use Rattle.step.specs.{Bounds.Small, Bounds.Sound, Bounds.SoundGains, Bounds.susBit, Context.memberOf, Context.onComma, Context.startGroup, Effect.taking, Effect.within, Interval.intervalOf, Interval.rowOf}
-use Rattle.step.specs.Next.{isEnd, isMaj7, isNumber, isSign, noteIn, numberIn, signIn}
+use Rattle.behind.specs.Next.{isEnd, isMaj7, isNumber, isSign, noteIn, numberIn, signIn}
 use Rattle.step.specs.Step.{addInterval, addSigned, addTarget, insideOf, intervalAlone, isPower, lastly, modifierStep, noteStep, omitTarget, placed, sixNine, stepOf, susAllows}
 use Rattle.step.specs.declared.context.Context.the-variants as context
 use Rattle.step.specs.declared.context.GroupKind.the-variants as group
 use Rattle.step.specs.declared.step.Bracket.the-variants.{Opens, Closes, Ends, Other}
-use Rattle.step.specs.declared.{context.Context.Context, context.GroupKind.GroupKind, effect.Effect.Effect, effect.Here.Here, next.Ahead.Ahead, next.Next.Next, step.Bracket.Bracket}
+use Rattle.step.specs.declared.{context.Context.Context, context.GroupKind.GroupKind, effect.Effect.Effect, effect.Here.Here, step.Bracket.Bracket}
 
 -- both laws of an effect
 abbrev Good : Here → Effect → Type 0
@@ -28,11 +30,6 @@ Good h e = Small h e × SoundGains (e .gains)
 choice : {A : Type 0} (P : A → Type 0) (b : Bool) {x y : A} → (b ≡ true → P x) → (b ≡ false → P y) → P (cond b x y)
 choice P true f g = f refl
 choice P false f g = g refl
-
--- one up or one down, a magnitude grows by one at most
-near : (d : ℤ) → (mag (d +ℤ pos 1) ≤ mag d + 1) × (mag (d -ℤ pos 1) ≤ mag d + 1)
-near (pos a) = (omega arith, choice (λ (z : ℤ). mag z ≤ a + 1) (ltb a 1) (omega arith) (omega arith))
-near (negsuc a) = (choice (λ (z : ℤ). mag z ≤ a + 1) (ltb 1 (suc a)) (omega arith) (omega arith), omega arith)
 
 -- no entry of a row is above its largest
 abbrev largest : List ℕ → ℕ
