@@ -14,6 +14,7 @@ use Rattle.behind.specs.declared.Ahead.{Ahead}
 use Rattle.behind.specs.declared.Next.{Next}
 use Rattle.token.specs.declared.TokenType.the-variants as type
 use Rattle.token.specs.declared.TokenType.{TokenType}
+use Rattle.step.proofs.Count.{near}
 use Rattle.step.specs.{Bounds.Small, Bounds.Sound, Bounds.SoundGains, Bounds.susBit, Context.memberOf, Context.onComma, Context.startGroup, Effect.taking, Effect.within, Interval.intervalOf, Interval.rowOf}
 use Rattle.behind.specs.Next.{isEnd, isMaj7, isNumber, isSign, noteIn, numberIn, signIn}
 use Rattle.step.specs.Step.{addInterval, addSigned, addTarget, insideOf, intervalAlone, isPower, lastly, modifierStep, noteStep, omitTarget, placed, sixNine, stepOf, susAllows}
