@@ -43,7 +43,39 @@ fn pack(kind: u32, value: u8, pos: u16) -> u32
     kind + 16 * wide8(value) + 4096 * wide16(pos)
 }
 
+// The expression of a kind below 15.
+fn by_kind(kind: u32, value: u8, pos: u16) -> Exp
+    ensures { λ r. ⌜ r ≡ expBy kind value pos ⌝ }
+{
+    match kind {
+        0 => Exp::Power,
+        1 => Exp::Bass,
+        2 => Exp::Maj,
+        3 => Exp::Maj7,
+        4 => Exp::Minor,
+        5 => Exp::HalfDim,
+        6 => Exp::Dim,
+        7 => Exp::Dim7,
+        8 => Exp::Alt,
+        9 => Exp::Aug,
+        10 => Exp::Sus(value),
+        11 => Exp::Extension(value, pos),
+        12 => Exp::Add(value, pos),
+        13 => Exp::Omit(value, pos),
+        _ => Exp::SlashBass(Note::from_number(value)),
+    }
+}
+
 impl Exp {
+    // The expression of a number; every number has one.
+    pub fn from_number(number: u32) -> Exp
+        ensures { λ r. ⌜ r ≡ expOf number ⌝ }
+    {
+        let value = number / 16 % 256;
+        let pos = number / 4096 % 65536;
+        by_kind(number % 16, value as u8, pos as u16)
+    }
+
     // The expression as a number, from which it is found again.
     pub fn number(self) -> u32
         ensures { λ r. ⌜ (r ≡ expNumber self) × (expOf r ≡ self) ⌝ }

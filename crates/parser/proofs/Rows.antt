@@ -71,7 +71,8 @@ pub next-none : (ks : List ℕ) (i : ℕ) → length ks ≤ i → nextIn ks i �
 unfolding typeOf
 next-none ks i h = ap (λ (n : ℕ). nextOf (typeOf n)) (List·getD-eq-default ks 0 h)
 
-rows-take : (n : ℕ) (ks ps ls : List ℕ) → rows (take n ks) (take n ps) (take n ls) ≡ take n (rows ks ps ls)
+-- the rows of the first n
+pub rows-take : (n : ℕ) (ks ps ls : List ℕ) → rows (take n ks) (take n ps) (take n ls) ≡ take n (rows ks ps ls)
 unfolding rows
 rows-take zero ks ps ls = refl
 rows-take (suc n) [] ps ls = refl

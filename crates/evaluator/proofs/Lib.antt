@@ -1,0 +1,4 @@
+-- What several proofs use.
+mod Rest
+mod Shown
+mod Walks

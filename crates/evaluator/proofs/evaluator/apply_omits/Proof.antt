@@ -1,0 +1,70 @@
+-- The invariant: the rest, from the set so far, gives what all of them give.
+use Prim.Native.Nat.{_+_, _-_, _≤_, suc}
+use Rattle.chord.specs.Chord.{members}
+use Rattle.evaluator.proofs.Walks.{from, from-none, walk-turn}
+use Rattle.evaluator.proofs.evaluator.apply_omits.Statement.{statement}
+use Rattle.evaluator.specs.Evaluator.{omitBy, walk}
+use borrow.Author.Needs.{needs}
+use lib.ListN.{length}
+use mathlib.Core.Path.{_∙_, _≡_, ap, refl, sym}
+use native.Mathlib.Omega.{arith}
+use Rattle.evaluator.proofs.evaluator.apply_omits.Tie as tie
+
+abbrev Inv-loop : tie.InvT-loop
+Inv-loop exps s₀ i₀ s i =
+    (i ≤ length exps) × (walk omitBy (members s) (from i exps) ≡ walk omitBy (members s₀) (from 0 exps))
+
+abbrev μ-loop : tie.MeasureT-loop
+μ-loop exps s₀ i₀ s i = length exps - i
+
+loop-holds : tie.Need-loop-holds Inv-loop μ-loop
+loop-holds c = (omega arith, refl)
+
+mul-from-number : tie.Need-mul-from-number Inv-loop μ-loop
+mul-from-number c = search needs
+
+shared-slice-read-from-number : tie.Need-shared-slice-read-from-number Inv-loop μ-loop
+shared-slice-read-from-number c = search needs
+
+from-number-requires : tie.Need-from-number-requires Inv-loop μ-loop
+from-number-requires c κs = search needs
+
+omit-by-requires : tie.Need-omit-by-requires Inv-loop μ-loop
+omit-by-requires c κs = search needs
+
+add-i : tie.Need-add-i Inv-loop μ-loop
+add-i c = search needs
+
+loop-less : tie.Need-loop-less Inv-loop μ-loop
+loop-less c = omega (arith, c .before .before .before .loop-test .taken)
+
+loop-again : tie.Need-loop-again Inv-loop μ-loop
+loop-again c =
+    let xs = c .before .before .before .before .before .before .args .exps .now in
+    let i = c .before .before .before .before .loop .i in
+    let s = c .before .before .before .before .loop .s in
+    let k : suc i ≡ i + 1 = omega arith in
+    let e = c .omit-by .ensures ∙ ap (omitBy (members s)) (c .before .from-number .ensures) in
+    (omega (arith, c .before .before .before .loop-test .taken), rw (← k) (walk-turn omitBy (members s) (members (c .omit-by .result)) xs i (c .before .before .before .loop-test .taken) e ∙ c .before .before .before .before .loop .inv .1))
+
+returns : tie.Need-returns Inv-loop μ-loop
+returns c =
+    let xs = c .before .before .before .args .exps .now in
+    let s = c .before .loop .s in
+    ap (λ l. walk omitBy (members s) l) (sym (from-none xs (c .before .loop .i) (c .loop-test .left))) ∙ c .before .loop .inv .1
+
+pub apply-omits-spec : {M : Type 1} → statement M
+apply-omits-spec =
+    tie.close
+    (tie.spec
+    Inv-loop
+    μ-loop
+    loop-holds
+    mul-from-number
+    shared-slice-read-from-number
+    from-number-requires
+    omit-by-requires
+    add-i
+    loop-less
+    loop-again
+    returns)

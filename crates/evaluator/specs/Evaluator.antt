@@ -1,0 +1,321 @@
+-- From expressions to intervals: the stages in the order and with the names of `Evaluator::evaluate`, up to `prune`. "The stages run as
+-- `Evaluator::evaluate` lists them". Where the Rust pushes to `alts`, `omits` or `adds`, the list of what an expression pushes is given.
+use mathlib.Core.Bool.{Bool, true, false, _&&_, _||_, cond}
+use mathlib.Core.List.{List, [], _∷_}
+use Prim.Native.Nat.{ℕ, max}
+use lib.Dec.{eqb, leb}
+use Rattle.chord.specs.Interval.{Set, empty, insert, remove, removeThenAdd, unison, minorSecond, majorSecond, minorThird, majorThird, perfectFourth, augmentedFourth, diminishedFifth, perfectFifth, augmentedFifth, minorSixth, majorSixth, diminishedSeventh, minorSeventh, majorSeventh, flatNinth, ninth, sharpNinth, eleventh, sharpEleventh, flatThirteenth, thirteenth}
+use Rattle.chord.specs.declared.note.OptionalNote.the-variants as optional
+use Rattle.chord.specs.declared.note.OptionalNote.{OptionalNote}
+use Rattle.expression.specs.declared.expression.Exp.the-variants.{Power, Bass, Maj, Maj7, Minor, HalfDim, Dim, Dim7, Alt, Aug, Sus, Extension, Add, Omit, SlashBass}
+use Rattle.expression.specs.declared.expression.Exp.{Exp}
+use Rattle.evaluator.specs.declared.ast.BaseForm.the-variants as form
+use Rattle.evaluator.specs.declared.ast.BaseForm.{BaseForm}
+
+-- a list from left to right, one member of a list with a property, and a number in a list
+abbrev pub walk {ℓ κ} : {A : Type ℓ} {B : Type κ} → (B → A → B) → B → List A → B
+walk f b [] = b
+walk f b (a ∷ l) = walk f (f b a) l
+
+abbrev pub any {ℓ} : {A : Type ℓ} → (A → Bool) → List A → Bool
+any f [] = false
+any f (a ∷ l) = f a || any f l
+
+abbrev pub elem : ℕ → List ℕ → Bool
+elem x l = any (eqb x) l
+
+-- `seed_defaults`
+abbrev pub seed : Set
+seed = insert (insert (insert empty unison) majorThird) perfectFifth
+
+-- `evaluate_expressions`: what an expression does to the set at once
+abbrev pub direct : Set → Exp → Set
+direct s Power = s
+direct s Bass = remove (remove s perfectFifth) majorThird
+direct s Maj = s
+direct s Maj7 = insert s majorSeventh
+direct s Minor = s
+direct s HalfDim = s
+direct s Dim = s
+direct s Dim7 = s
+direct s Alt = insert s minorSeventh
+direct s Aug = s
+direct s (Sus x) = s
+direct s (Extension x p) = cond (elem x (majorSixth ∷ minorSixth ∷ minorSeventh ∷ [])) (insert s x) s
+direct s (Add x p) = s
+direct s (Omit x p) = s
+direct s (SlashBass n) = s
+
+-- what it pushes to `alts`
+abbrev pub alterations : List ℕ
+alterations =
+    perfectFourth ∷ augmentedFourth ∷ diminishedFifth ∷ augmentedFifth ∷ flatNinth ∷ sharpNinth ∷ sharpEleventh ∷ flatThirteenth ∷ minorSeventh ∷ []
+
+abbrev pub altsOf : Exp → List ℕ
+altsOf Power = []
+altsOf Bass = []
+altsOf Maj = []
+altsOf Maj7 = []
+altsOf Minor = []
+altsOf HalfDim = []
+altsOf Dim = []
+altsOf Dim7 = []
+altsOf Alt = flatNinth ∷ sharpNinth ∷ sharpEleventh ∷ flatThirteenth ∷ []
+altsOf Aug = augmentedFifth ∷ []
+altsOf (Sus x) = cond (eqb x augmentedFourth) (sharpEleventh ∷ []) (cond (eqb x minorSecond) (flatNinth ∷ []) (cond (eqb x majorSecond) (ninth ∷ []) []))
+altsOf (Extension x p) = cond (elem x alterations) (x ∷ []) []
+altsOf (Add x p) = []
+altsOf (Omit x p) = []
+altsOf (SlashBass n) = []
+
+-- to `omits`
+abbrev pub omitsOf : Exp → List ℕ
+omitsOf Power = []
+omitsOf Bass = []
+omitsOf Maj = []
+omitsOf Maj7 = []
+omitsOf Minor = []
+omitsOf HalfDim = []
+omitsOf Dim = []
+omitsOf Dim7 = []
+omitsOf Alt = perfectFifth ∷ []
+omitsOf Aug = []
+omitsOf (Sus x) = majorThird ∷ []
+omitsOf (Extension x p) = []
+omitsOf (Add x p) = []
+omitsOf (Omit x p) = x ∷ []
+omitsOf (SlashBass n) = []
+
+-- to `adds`
+abbrev pub addsOf : Exp → List ℕ
+addsOf Power = []
+addsOf Bass = []
+addsOf Maj = []
+addsOf Maj7 = []
+addsOf Minor = []
+addsOf HalfDim = []
+addsOf Dim = []
+addsOf Dim7 = []
+addsOf Alt = []
+addsOf Aug = []
+addsOf (Sus x) = []
+addsOf (Extension x p) = []
+addsOf (Add x p) = x ∷ []
+addsOf (Omit x p) = []
+addsOf (SlashBass n) = []
+
+-- is it a Sus with the fourth, which becomes `sus`; is it Maj or Maj7, as `implied_seventh` asks
+abbrev pub isSus4 : Exp → Bool
+isSus4 Power = false
+isSus4 Bass = false
+isSus4 Maj = false
+isSus4 Maj7 = false
+isSus4 Minor = false
+isSus4 HalfDim = false
+isSus4 Dim = false
+isSus4 Dim7 = false
+isSus4 Alt = false
+isSus4 Aug = false
+isSus4 (Sus x) = eqb x perfectFourth
+isSus4 (Extension x p) = false
+isSus4 (Add x p) = false
+isSus4 (Omit x p) = false
+isSus4 (SlashBass n) = false
+
+abbrev pub isMaj : Exp → Bool
+isMaj Power = false
+isMaj Bass = false
+isMaj Maj = true
+isMaj Maj7 = true
+isMaj Minor = false
+isMaj HalfDim = false
+isMaj Dim = false
+isMaj Dim7 = false
+isMaj Alt = false
+isMaj Aug = false
+isMaj (Sus x) = false
+isMaj (Extension x p) = false
+isMaj (Add x p) = false
+isMaj (Omit x p) = false
+isMaj (SlashBass n) = false
+
+-- an extension 9, 11 or 13, else 0; the largest is `max_extension`
+abbrev pub extOf : Exp → ℕ
+extOf Power = 0
+extOf Bass = 0
+extOf Maj = 0
+extOf Maj7 = 0
+extOf Minor = 0
+extOf HalfDim = 0
+extOf Dim = 0
+extOf Dim7 = 0
+extOf Alt = 0
+extOf Aug = 0
+extOf (Sus x) = 0
+extOf (Extension x p) = cond (elem x (ninth ∷ eleventh ∷ thirteenth ∷ [])) x 0
+extOf (Add x p) = 0
+extOf (Omit x p) = 0
+extOf (SlashBass n) = 0
+
+-- the base form that it asks for
+abbrev pub formOf : Exp → BaseForm
+formOf Power = form.Power
+formOf Bass = form.Major
+formOf Maj = form.Major
+formOf Maj7 = form.Major
+formOf Minor = form.Minor
+formOf HalfDim = form.HalfDim
+formOf Dim = form.Dim
+formOf Dim7 = form.Dim7
+formOf Alt = form.Major
+formOf Aug = form.Major
+formOf (Sus x) = form.Major
+formOf (Extension x p) = form.Major
+formOf (Add x p) = form.Major
+formOf (Omit x p) = form.Major
+formOf (SlashBass n) = form.Major
+
+-- the slash bass that it sets
+abbrev pub bassOf : OptionalNote → Exp → OptionalNote
+bassOf b Power = b
+bassOf b Bass = b
+bassOf b Maj = b
+bassOf b Maj7 = b
+bassOf b Minor = b
+bassOf b HalfDim = b
+bassOf b Dim = b
+bassOf b Dim7 = b
+bassOf b Alt = b
+bassOf b Aug = b
+bassOf b (Sus x) = b
+bassOf b (Extension x p) = b
+bassOf b (Add x p) = b
+bassOf b (Omit x p) = b
+bassOf b (SlashBass n) = optional.Some n
+
+-- `BaseForm::transition`: the form with the higher `priority` stays
+abbrev pub priority : BaseForm → ℕ
+priority form.Major = 0
+priority form.HalfDim = 1
+priority form.Minor = 2
+priority form.Dim = 3
+priority form.Dim7 = 4
+priority form.Power = 5
+
+abbrev pub transition : BaseForm → BaseForm → BaseForm
+transition f g = cond (leb (priority g) (priority f)) f g
+
+abbrev pub formAt : BaseForm → Exp → BaseForm
+formAt f e = transition f (formOf e)
+
+abbrev pub extAt : ℕ → Exp → ℕ
+extAt n e = max n (extOf e)
+
+abbrev pub baseForm : List Exp → BaseForm
+baseForm l = walk formAt form.Major l
+
+abbrev pub maxExt : List Exp → ℕ
+maxExt l = walk extAt 0 l
+
+-- `apply_base_form`
+abbrev pub applyForm : BaseForm → Set → Set
+applyForm form.Major s = s
+applyForm form.Power s = remove s majorThird
+applyForm form.Minor s = removeThenAdd s majorThird minorThird
+applyForm form.Dim s = removeThenAdd (removeThenAdd s majorThird minorThird) perfectFifth diminishedFifth
+applyForm form.HalfDim s = insert (removeThenAdd (removeThenAdd s majorThird minorThird) perfectFifth diminishedFifth) minorSeventh
+applyForm form.Dim7 s = insert (removeThenAdd (removeThenAdd s majorThird minorThird) perfectFifth diminishedFifth) diminishedSeventh
+
+-- `apply_sus`
+abbrev pub removeThirds : Set → Set
+removeThirds s = remove (remove s minorThird) majorThird
+
+abbrev pub applySus : Bool → Set → Set
+applySus true s = insert (removeThirds s) perfectFourth
+applySus false s = s
+
+-- `apply_alterations`, one
+abbrev pub alter : Set → ℕ → Set
+alter s x = cond (elem x (diminishedFifth ∷ augmentedFifth ∷ flatThirteenth ∷ [])) (removeThenAdd s perfectFifth x) (insert s x)
+
+-- `implied_extensions`: x unless one of those that conflict with it by `EQUIVALENCE_MAP` is there
+abbrev pub isMajor : BaseForm → Bool
+isMajor form.Major = true
+isMajor form.Minor = false
+isMajor form.Dim = false
+isMajor form.HalfDim = false
+isMajor form.Dim7 = false
+isMajor form.Power = false
+
+abbrev pub imply : ℕ → List ℕ → Set → Set
+imply x conflicts s = cond (any s conflicts) s (insert s x)
+
+abbrev pub imply9 : Set → Set
+imply9 s = imply ninth (flatNinth ∷ sharpNinth ∷ []) s
+
+abbrev pub imply11 : Set → Set
+imply11 s = imply eleventh (sharpEleventh ∷ []) s
+
+abbrev pub imply7 : Bool → Set → Set
+imply7 true s = insert s majorSeventh
+imply7 false s = imply minorSeventh (diminishedSeventh ∷ []) s
+
+abbrev pub implied13 : Bool → Set → Set
+implied13 major s = cond major (insert s thirteenth) (imply11 (insert s thirteenth))
+
+abbrev pub implied11 : Bool → Set → Set
+implied11 major s = cond major (removeThenAdd s majorThird perfectFourth) (insert s eleventh)
+
+abbrev pub implied9 : Bool → Set → Set
+implied9 maj s = cond (s majorSixth || s minorSixth) (insert s ninth) (imply7 maj (insert s ninth))
+
+abbrev pub implied : ℕ → Bool → Bool → Set → Set
+implied ext major maj s =
+    cond (eqb ext thirteenth) (imply7 maj (imply9 (implied13 major s)))
+    (cond (eqb ext eleventh) (imply7 maj (imply9 (implied11 major s)))
+    (cond (eqb ext ninth) (implied9 maj s)
+    s))
+
+-- `apply_omits`, one
+abbrev pub omit : Set → ℕ → Set
+omit s x = cond (eqb x perfectFifth) (remove (remove (remove s perfectFifth) augmentedFifth) diminishedFifth) (cond (eqb x majorThird) (removeThirds s) s)
+
+-- `apply_adds`, one
+abbrev pub add : Set → ℕ → Set
+add s x = insert (cond (eqb x flatThirteenth) (remove s perfectFifth) s) x
+
+-- `prune`
+abbrev pub prune6 : Set → Set
+prune6 s = cond (s majorSixth) (remove s thirteenth) s
+
+abbrev pub prune11 : Set → Set
+prune11 s = cond (s majorThird && s eleventh) (removeThenAdd s eleventh perfectFourth) s
+
+-- the stages over a list of expressions: alterations, omits and adds in the order in which they were pushed
+abbrev pub alterBy : Set → Exp → Set
+alterBy s e = walk alter s (altsOf e)
+
+abbrev pub omitBy : Set → Exp → Set
+omitBy s e = walk omit s (omitsOf e)
+
+abbrev pub addBy : Set → Exp → Set
+addBy s e = walk add s (addsOf e)
+
+-- the normalized set of a list of expressions
+abbrev pub evalSet : List Exp → Set
+evalSet l =
+    prune11 (prune6
+    (walk addBy
+    (walk omitBy
+    (implied (maxExt l) (isMajor (baseForm l)) (any isMaj l)
+    (walk alterBy
+    (applySus (any isSus4 l)
+    (applyForm (baseForm l)
+    (walk direct seed l)))
+    l))
+    l)
+    l))
+
+-- its slash bass: the last one
+abbrev pub slashBass : List Exp → OptionalNote
+slashBass l = walk bassOf optional.None l

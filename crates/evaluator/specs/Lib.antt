@@ -1,0 +1,3 @@
+pub mod Evaluator
+pub mod Display
+pub mod State

@@ -1,0 +1,125 @@
+// The display list: the members in the order of the semitones of what they are shown as.
+ghost use mathlib.Core.Bool.{cond};
+ghost use mathlib.Core.List.{[], _∷_, _++_};
+ghost use mathlib.Core.Path.{_≡_};
+ghost use Prim.Native.Nat.{_+_, _≤_, _<_};
+ghost use lib.ListN.{getD};
+ghost use Rattle.chord.specs.Chord.{members, listed};
+ghost use Rattle.evaluator.specs.Display.{shown, order, displayOf, susOf};
+ghost use Rattle.evaluator.specs.State.{movedAt};
+use chord::interval::AUGMENTED_FOURTH;
+use chord::interval::FLAT_NINTH;
+use chord::interval::IntervalList;
+use chord::interval::IntervalSet;
+use chord::interval::MAJOR_SECOND;
+use chord::interval::MINOR_SECOND;
+use chord::interval::NINTH;
+use chord::interval::SHARP_ELEVENTH;
+use expression::expression::Exp;
+
+pub(crate) fn sus_of(e: Exp, k: u8) -> u8
+    ensures { λ r. ⌜ r ≡ susOf e k ⌝ }
+{
+    match e {
+        Exp::Sus(interval) => interval,
+        _ => k,
+    }
+}
+
+// What the interval i is shown as, where the first sus is of the interval k.
+fn shown(k: u8, i: u8) -> u8
+    ensures { λ r. ⌜ r ≡ shown k i ⌝ }
+{
+    if k == MINOR_SECOND {
+        if i == FLAT_NINTH {
+            return MINOR_SECOND;
+        }
+        return i;
+    }
+    if k == MAJOR_SECOND {
+        if i == NINTH {
+            return MAJOR_SECOND;
+        }
+        return i;
+    }
+    if k == AUGMENTED_FOURTH {
+        if i == SHARP_ELEVENTH {
+            return AUGMENTED_FOURTH;
+        }
+        return i;
+    }
+    i
+}
+
+// The j-th of the numbers, where `high` has been moved behind `low`.
+fn moved(low: u8, high: u8, j: u8) -> u8
+    requires { ⌜ low + 1 < 256 ⌝ }
+    ensures { λ r. ⌜ r ≡ movedAt low high j ⌝ }
+{
+    if j <= low {
+        return j;
+    }
+    if j == low + 1 {
+        return high;
+    }
+    if j <= high {
+        return j - 1;
+    }
+    j
+}
+
+// The j-th of the numbers in the order in which they are shown.
+fn order_at(k: u8, j: u8) -> u8
+    requires { ⌜ j < 23 ⌝ }
+    ensures { λ r. ⌜ (r ≡ getD (order k) j 0) × (r < 23) ⌝ }
+{
+    if k == MINOR_SECOND {
+        return moved(1, 16, j);
+    }
+    if k == MAJOR_SECOND {
+        return moved(2, 17, j);
+    }
+    if k == AUGMENTED_FOURTH {
+        return moved(7, 20, j);
+    }
+    j
+}
+
+// The list with one more interval.
+fn push(l: IntervalList, interval: u8) -> IntervalList
+    requires { ⌜ l .len < 23 ⌝ }
+    ensures { λ r. ⌜ (listed r ≡ listed l ++ (interval ∷ [])) × (r .len ≡ l .len + 1) ⌝ }
+{
+    let mut m = l;
+    let n = m.len;
+    m.numbers[n] = interval;
+    m.len = n + 1;
+    m
+}
+
+// The list with the interval i as it is shown, where it is a member.
+fn push_shown(l: IntervalList, s: IntervalSet, k: u8, i: u8) -> IntervalList
+    requires { ⌜ (l .len < 23) × (i < 23) ⌝ }
+    ensures { λ r. ⌜ (listed r ≡ listed l ++ cond (members s i) (shown k i ∷ []) []) × (r .len ≤ l .len + 1) ⌝ }
+{
+    if s.contains(i) {
+        return push(l, shown(k, i));
+    }
+    l
+}
+
+// The display list of a set.
+pub(crate) fn display(k: u8, s: IntervalSet) -> IntervalList
+    ensures { λ r. ⌜ listed r ≡ displayOf k (members s) ⌝ }
+{
+    let mut l = IntervalList {
+        numbers: [0; 23],
+        len: 0,
+    };
+    let mut j = 0;
+    while j < 23 {
+        l = push_shown(l, s, k, order_at(k, j));
+        j += 1;
+    }
+    l
+}
