@@ -1,0 +1,2 @@
+pub mod Validator
+pub mod State

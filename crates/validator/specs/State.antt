@@ -1,0 +1,34 @@
+-- What the code's values stand for, and what it does to the lent list.
+use mathlib.Core.Bool.{Bool, true, false}
+use mathlib.Core.List.{List, [], _++_}
+use mathlib.Core.Path.{_≡_}
+use Prim.Native.Nat.{ℕ, _+_, _*_}
+use lib.ListN.{length, take, drop, getD}
+use Rattle.expression.specs.ParserError.{numbersOf}
+use Rattle.validator.specs.declared.expressions.Counts.{Counts}
+use Rattle.validator.specs.declared.fault.Fault.the-variants as fault
+use Rattle.validator.specs.declared.fault.Fault.{Fault}
+use Rattle.validator.specs.declared.semitones.Lasts.{Lasts}
+
+abbrev pub isSome : Fault → Bool
+isSome fault.None = false
+isSome (fault.Some e) = true
+
+-- the four numbers of the error, if there is one
+abbrev pub errorOf : Fault → List ℕ
+errorOf fault.None = []
+errorOf (fault.Some e) = numbersOf e
+
+-- how many expressions of a priority were counted
+unfoldable pub countsOf : Counts → ℕ → ℕ
+countsOf c p = getD (c .of) p 0
+
+-- the last interval of a class
+unfoldable pub lastsOf : Lasts → ℕ → ℕ
+lastsOf l c = getD (l .of) c 0
+
+-- the first n errors became the first r, with `more` behind them, and the rest of the list is untouched
+pub record Wrote (n r : ℕ) (more : List ℕ) (es es′ : List ℕ) : Type 0 where
+  pub list : take (4 * r) es′ ≡ take (4 * n) es ++ more
+  pub rest : drop (4 * r) es′ ≡ drop (4 * r) es
+  pub count : 4 * r ≡ 4 * n + length more

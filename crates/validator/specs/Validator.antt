@@ -1,0 +1,167 @@
+-- Validation (validator.rs): "Validation runs all three checks and joins their errors." An error is its four numbers.
+use mathlib.Core.Bool.{Bool, false, cond, not, _&&_, _||_}
+use mathlib.Core.List.{List, [], _∷_, _++_}
+use Prim.Native.Nat.{ℕ, zero, suc, _+_, _%_}
+use lib.Dec.{eqb, ltb}
+use lib.ListN.{getD}
+use Rattle.chord.specs.Interval.{Set, empty, insert, semitones, minorSecond, majorSecond, minorThird, majorThird, perfectFourth, diminishedFifth, perfectFifth, augmentedFifth, minorSixth, majorSixth, diminishedSeventh, majorSeventh, flatNinth, ninth, sharpNinth, eleventh, sharpEleventh, flatThirteenth, thirteenth}
+use Rattle.expression.specs.ParserError.{numbersOf}
+use Rattle.expression.specs.declared.expression.Exp.the-variants.{Power, Bass, Maj, Maj7, Minor, HalfDim, Dim, Dim7, Alt, Aug, Sus, Extension, Add, Omit, SlashBass}
+use Rattle.expression.specs.declared.expression.Exp.{Exp}
+use Rattle.expression.specs.declared.parser_error.ParserError.the-variants.{DuplicateModifier, InconsistentExtension, DuplicateExtension, InvalidExtension, WrongExpressionTarget, ThreeConsecutiveSemitones}
+use Rattle.expression.specs.declared.parser_error.ParserError.{ParserError}
+
+-- is the number in the list?
+abbrev pub among : List ℕ → ℕ → Bool
+among [] n = false
+among (k ∷ ks) n = eqb k n || among ks n
+
+-- the error, if b
+abbrev pub only : Bool → ParserError → List ℕ
+only b e = cond b (numbersOf e) []
+
+-- what was found, or else r
+abbrev pub orElse : List ℕ → List ℕ → List ℕ
+orElse [] r = r
+orElse (x ∷ xs) r = x ∷ xs
+
+-- the first error, and all errors, of f i, f (i + 1), .., n in number
+unfoldable pub firstFrom : (ℕ → List ℕ) → ℕ → ℕ → List ℕ
+firstFrom f zero i = []
+firstFrom f (suc n) i = orElse (f i) (firstFrom f n (suc i))
+
+unfoldable pub allFrom : (ℕ → List ℕ) → ℕ → ℕ → List ℕ
+allFrom f zero i = []
+allFrom f (suc n) i = f i ++ allFrom f n (suc i)
+
+-- `isvalid` of Add and of Omit: what they may name
+abbrev pub addTargets : List ℕ
+addTargets =
+    majorSecond ∷ majorThird ∷ perfectFourth ∷ minorSixth ∷ majorSixth ∷ majorSeventh ∷ flatNinth ∷ ninth ∷ sharpNinth ∷ eleventh ∷ sharpEleventh ∷ flatThirteenth ∷ thirteenth ∷ []
+
+abbrev pub omitTargets : List ℕ
+omitTargets = majorThird ∷ perfectFifth ∷ []
+
+-- `validate` of an expression
+abbrev pub wrongOf : Exp → List ℕ
+wrongOf Power = []
+wrongOf Bass = []
+wrongOf Maj = []
+wrongOf Maj7 = []
+wrongOf Minor = []
+wrongOf HalfDim = []
+wrongOf Dim = []
+wrongOf Dim7 = []
+wrongOf Alt = []
+wrongOf Aug = []
+wrongOf (Sus x) = []
+wrongOf (Extension x p) = []
+wrongOf (Add x p) = only (not (among addTargets x)) (WrongExpressionTarget p)
+wrongOf (Omit x p) = only (not (among omitTargets x)) (WrongExpressionTarget p)
+wrongOf (SlashBass n) = []
+
+-- `validate_expressions`: the first wrong target
+unfoldable pub firstWrong : List Exp → List ℕ
+firstWrong [] = []
+firstWrong (e ∷ l) = orElse (wrongOf e) (firstWrong l)
+
+-- `priority`; Extension, Add and Omit may repeat, and have 15
+abbrev pub priorityOf : Exp → ℕ
+priorityOf Power = 0
+priorityOf Alt = 1
+priorityOf Bass = 2
+priorityOf Minor = 3
+priorityOf Dim7 = 4
+priorityOf Dim = 5
+priorityOf HalfDim = 6
+priorityOf (Sus x) = 7
+priorityOf Maj = 8
+priorityOf Maj7 = 9
+priorityOf (Extension x p) = 15
+priorityOf (Add x p) = 15
+priorityOf Aug = 12
+priorityOf (Omit x p) = 15
+priorityOf (SlashBass n) = 14
+
+-- how many expressions have the priority p
+unfoldable pub countOf : List Exp → ℕ → ℕ
+countOf [] p = 0
+countOf (e ∷ l) p = cond (eqb (priorityOf e) p) 1 0 + countOf l p
+
+abbrev pub repeatedAt : (ℕ → ℕ) → ℕ → List ℕ
+repeatedAt counts p = only (ltb 1 (counts p)) (DuplicateModifier p)
+
+-- "Where several kinds of expression repeat, .. the least `priority` is reported"
+abbrev pub repeated : List Exp → List ℕ
+repeated l = firstFrom (repeatedAt (countOf l)) 15 0
+
+abbrev pub expressionErrors : List Exp → List ℕ
+expressionErrors l = orElse (firstWrong l) (repeated l)
+
+-- f of an extension's interval and position; d for every other expression
+abbrev pub onExtension : {A : Type 0} → A → (ℕ → ℕ → A) → Exp → A
+onExtension d f Power = d
+onExtension d f Bass = d
+onExtension d f Maj = d
+onExtension d f Maj7 = d
+onExtension d f Minor = d
+onExtension d f HalfDim = d
+onExtension d f Dim = d
+onExtension d f Dim7 = d
+onExtension d f Alt = d
+onExtension d f Aug = d
+onExtension d f (Sus x) = d
+onExtension d f (Extension x p) = f x p
+onExtension d f (Add x p) = d
+onExtension d f (Omit x p) = d
+onExtension d f (SlashBass n) = d
+
+-- `validate_extensions`: intervals that are no extensions, and semitones that an extension before has
+abbrev pub badExtensions : List ℕ
+badExtensions = minorSecond ∷ majorSecond ∷ minorThird ∷ majorThird ∷ diminishedSeventh ∷ majorSeventh ∷ []
+
+abbrev pub faultAt : Set → ℕ → ℕ → List ℕ
+faultAt seen x p = cond (among badExtensions x) (numbersOf (InvalidExtension p)) (only (seen (semitones x)) (DuplicateExtension p))
+
+abbrev pub faultOf : Set → Exp → List ℕ
+faultOf seen e = onExtension [] (faultAt seen) e
+
+abbrev pub seeing : Set → Exp → Set
+seeing seen e = onExtension seen (λ x p. insert seen (semitones x)) e
+
+unfoldable pub extensionFault : Set → List Exp → List ℕ
+extensionFault seen [] = []
+extensionFault seen (e ∷ l) = orElse (faultOf seen e) (extensionFault (seeing seen e) l)
+
+-- `has_inconsistent_extensions`: the pairs of INCOMPAT_SET, each with the interval that is reported, which is the first of the two
+abbrev pub reported : List ℕ
+reported = majorThird ∷ perfectFifth ∷ perfectFifth ∷ majorSixth ∷ ninth ∷ ninth ∷ eleventh ∷ thirteenth ∷ []
+
+abbrev pub others : List ℕ
+others = minorThird ∷ diminishedFifth ∷ augmentedFifth ∷ minorSixth ∷ flatNinth ∷ sharpNinth ∷ sharpEleventh ∷ flatThirteenth ∷ []
+
+abbrev pub conflictAt : Set → ℕ → List ℕ
+conflictAt s i = only (s (getD reported i 0) && s (getD others i 0)) (InconsistentExtension (getD reported i 0))
+
+abbrev pub extensionErrors : List Exp → Set → List ℕ
+extensionErrors l s = orElse (extensionFault empty l) (allFrom (conflictAt s) 8 0)
+
+-- `validate_semitones`: the last interval below n that is in the set and in the class c of semitones; 23 where there is none
+unfoldable pub lastBelow : ℕ → Set → ℕ → ℕ
+lastBelow zero s c = 23
+lastBelow (suc n) s c = cond (s n && eqb (semitones n % 12) c) n (lastBelow n s c)
+
+-- three intervals, if there are three
+abbrev pub three : ℕ → ℕ → ℕ → List ℕ
+three a b c = only (ltb a 23 && (ltb b 23 && ltb c 23)) (ThreeConsecutiveSemitones a b c)
+
+-- the class c and the next two, going round from 11 to 0
+abbrev pub neighboursAt : (ℕ → ℕ) → ℕ → List ℕ
+neighboursAt last c = three (last c) (last ((c + 1) % 12)) (last ((c + 2) % 12))
+
+unfoldable pub semitoneErrors : Set → List ℕ
+semitoneErrors s = allFrom (neighboursAt (lastBelow 23 s)) 12 0
+
+-- `validate`: the errors of the expressions l and of the set s that they make
+unfoldable pub validationOf : List Exp → Set → List ℕ
+validationOf l s = expressionErrors l ++ (extensionErrors l s ++ semitoneErrors s)

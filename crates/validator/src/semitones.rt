@@ -1,0 +1,102 @@
+// The check of three neighbours among the twelve classes of semitones, going round from 11 to 0.
+ghost use mathlib.Core.Path.{_≡_};
+ghost use mathlib.Core.Bool.{cond, _&&_};
+ghost use Prim.Native.Nat.{ℕ, _+_, _*_, _%_, _≤_, _<_};
+ghost use lib.Dec.{eqb, ltb};
+ghost use lib.ListN.{length};
+ghost use Rattle.chord.specs.Chord.{members};
+ghost use Rattle.chord.specs.Interval.{semitones};
+ghost use Rattle.validator.specs.State.{errorOf, lastsOf, Wrote};
+ghost use Rattle.validator.specs.Validator.{lastBelow, three, neighboursAt, semitoneErrors};
+use crate::fault::Fault;
+use crate::fault::fault_if;
+use crate::fault::push;
+use crate::fault::wide;
+use chord::interval::IntervalSet;
+use chord::interval::st;
+use expression::parser_error::ParserError;
+
+// The last interval of each class; 23 where there is none.
+pub struct Lasts {
+    pub of: [u8; 12],
+}
+
+impl Lasts {
+    fn new() -> Lasts
+        ensures { λ r. ⌜ ((c : ℕ) → c < 12 → lastsOf r c ≡ 23) ⌝ }
+    {
+        Lasts { of: [23; 12] }
+    }
+
+    // The interval i, if it is in the set, is the last of its class.
+    fn with(self, set: IntervalSet, i: u8) -> Lasts
+        requires { ⌜ i < 23 ⌝ }
+        ensures { λ r. ⌜ ((c : ℕ) → c < 12 → lastsOf r c ≡ cond (members set i && eqb (semitones i % 12) c) i (lastsOf self c)) ⌝ }
+    {
+        if !set.contains(i) {
+            return self;
+        }
+        let class = (st(i) % 12) as usize;
+        let mut l = self;
+        l.of[class] = i;
+        l
+    }
+}
+
+fn last_of_class(set: IntervalSet) -> Lasts
+    ensures { λ r. ⌜ ((c : ℕ) → c < 12 → lastsOf r c ≡ lastBelow 23 (members set) c) ⌝ }
+{
+    let mut lasts = Lasts::new();
+    let mut i = 0;
+    while i < 23 {
+        lasts = lasts.with(set, i);
+        i += 1;
+    }
+    lasts
+}
+
+// Are all three intervals?
+fn are_three(a: u8, b: u8, c: u8) -> bool
+    ensures { λ r. ⌜ r ≡ (ltb a 23 && (ltb b 23 && ltb c 23)) ⌝ }
+{
+    if 23 <= a {
+        return false;
+    }
+    if 23 <= b {
+        return false;
+    }
+    c < 23
+}
+
+fn fault_of_three(a: u8, b: u8, c: u8) -> Fault
+    ensures { λ r. ⌜ errorOf r ≡ three a b c ⌝ }
+{
+    fault_if(
+        are_three(a, b, c),
+        ParserError::ThreeConsecutiveSemitones(wide(a), wide(b), wide(c)),
+    )
+}
+
+// The class c and the next two.
+fn neighbours_at(lasts: Lasts, c: usize) -> Fault
+    requires { ⌜ c < 12 ⌝ }
+    ensures { λ r. ⌜ errorOf r ≡ neighboursAt (lastsOf lasts) c ⌝ }
+{
+    let d = (c + 1) % 12;
+    let e = (c + 2) % 12;
+    fault_of_three(lasts.of[c], lasts.of[d], lasts.of[e])
+}
+
+pub(crate) fn validate_semitones(set: IntervalSet, errs: &mut [u16], n: usize) -> usize
+    requires { ⌜ 4 * n + 48 ≤ length (now errs) ⌝ }
+    ensures { λ r. ⌜ Wrote n r (semitoneErrors (members set)) (now (errs .entry)) (now (errs .exit)) × (r ≤ n + 12) ⌝ }
+{
+    let lasts = last_of_class(set);
+    let mut m = n;
+    let mut c = 0;
+    while c < 12 {
+        m = push(errs, m, neighbours_at(lasts, c));
+        c += 1;
+    }
+    m
+}
