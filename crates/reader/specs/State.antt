@@ -1,0 +1,23 @@
+-- What the code gave: the answer, the record and the whole lent list, as an outcome says.
+use mathlib.Core.List.{List, _++_}
+use mathlib.Core.Path.{_≡_}
+use Prim.Native.Nat.{ℕ, _≤_}
+use lib.ListN.{drop, length, take}
+use Rattle.chord.specs.Chord.{fourOf}
+use Rattle.folding.specs.Folding.{preProcess}
+use Rattle.lexer.specs.Lexer.{tokensOf}
+use Rattle.token.specs.Token.{Ranged, Room, Token, rows}
+use Rattle.reader.specs.Reader.{Outcome}
+use Rattle.reader.specs.declared.Reading.{Reading}
+
+pub record Gave (o : Outcome) (r : Reading) (es es′ : List ℕ) : Type 0 where
+  pub answer : r .answer ≡ o .answer
+  pub four : fourOf (r .chord) ≡ o .four
+  pub list : es′ ≡ o .errs ++ drop (length (o .errs)) es
+
+-- the first e tokens are those of the text, folded
+pub record Tokenized (text : List ℕ) (e : ℕ) (ks ps ls : List ℕ) : Type 0 where
+  pub few : e ≤ 257
+  pub room : Room e ks ps ls
+  pub list : take e (rows ks ps ls) ≡ preProcess (tokensOf text)
+  pub ranged : Ranged 1000 1000 (take e (rows ks ps ls))
