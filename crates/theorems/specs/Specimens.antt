@@ -1,0 +1,67 @@
+-- The card specimens of document 01 that have a star, as far as reading decides them: one table, and one theorem for all of it.
+use mathlib.Core.Bool.{Bool, cond}
+use mathlib.Core.List.{List, [], _∷_, _++_, map}
+use mathlib.Core.Path.{_≡_, refl}
+use Prim.Native.Nat.{ℕ, zero, suc}
+use Rattle.chord.specs.Interval.{Set, insert, remove}
+use Rattle.chord.specs.Note.{noteNumber}
+use Rattle.chord.specs.declared.note.OptionalNote.the-variants.{None, Some}
+use Rattle.chord.specs.declared.note.OptionalNote.{OptionalNote}
+use Rattle.evaluator.specs.Display.{displayOf, order}
+use Rattle.folding.specs.Folding.{concat, count, foldOn, isMaj, join}
+use Rattle.lexer.specs.Lexer.{elem, headOf, isDigit, isLetter, lex, signOf}
+use Rattle.lexer.specs.Text.{ascii}
+use Rattle.lexer.specs.Words.{longestOf, words}
+use Rattle.parser.specs.Parser.{lastSix, walk}
+use Rattle.reader.specs.Reader.{Outcome, numberOf, readOf}
+use Rattle.token.specs.Token.{typeOf}
+use Rattle.utf8.specs.Utf8.{bits, charOf, encode, isScalar, wellFrom}
+use Rattle.validator.specs.Validator.{allFrom, countOf, extensionFault, firstFrom, firstWrong, lastBelow, semitoneErrors, validationOf}
+
+-- a card, the answer's number, the root's number (letter times three, and 1 for a sharp, 2 for a flat; 21 for none), and the members of N
+-- or the errors
+pub record Specimen : Type 0 where
+  pub card : List ℕ
+  pub number : ℕ
+  pub root : ℕ
+  pub list : List ℕ
+
+abbrev card : List ℕ → ℕ → ℕ → List ℕ → Specimen
+card t n r l = record { card = t; number = n; root = r; list = l }
+
+abbrev rootNumber : OptionalNote → ℕ
+rootNumber (Some n) = noteNumber n
+rootNumber None = 21
+
+-- the members from i on, n numbers
+abbrev membersFrom : ℕ → ℕ → Set → List ℕ
+membersFrom zero i s = []
+membersFrom (suc n) i s = cond (s i) (i ∷ membersFrom n (suc i) s) (membersFrom n (suc i) s)
+
+abbrev specimenOf : List ℕ → Outcome → Specimen
+specimenOf t o = card t (numberOf (o .answer)) (rootNumber (o .four .root)) (o .errs ++ membersFrom 23 0 (o .four .normalized))
+
+abbrev answer : List ℕ → Specimen
+answer t = specimenOf t (readOf 1028 t)
+
+abbrev pub specimens : List Specimen
+specimens =
+    card (ascii "C6/9") 0 0 (0 ∷ 4 ∷ 8 ∷ 11 ∷ 17 ∷ [])
+    ∷ card (ascii "C69") 0 0 (0 ∷ 4 ∷ 8 ∷ 11 ∷ 17 ∷ [])
+    ∷ card (ascii "C11") 0 0 (0 ∷ 5 ∷ 8 ∷ 13 ∷ 17 ∷ [])
+    ∷ card (ascii "Cb5") 0 2 (0 ∷ 8 ∷ [])
+    ∷ card (ascii "C,b5") 0 0 (0 ∷ 4 ∷ 7 ∷ [])
+    ∷ card (ascii "C7dim") 0 0 (0 ∷ 3 ∷ 7 ∷ 12 ∷ [])
+    ∷ card (ascii "C(omit3,)5") 0 0 (0 ∷ [])
+    ∷ card [] 4 21 (9 ∷ 0 ∷ 0 ∷ 0 ∷ [])
+    ∷ card (ascii "C)") 4 21 (15 ∷ 2 ∷ 0 ∷ 0 ∷ [])
+    ∷ card (ascii "C((") 4 21 (17 ∷ 2 ∷ 0 ∷ 0 ∷ 16 ∷ 3 ∷ 0 ∷ 0 ∷ [])
+    ∷ card (ascii "C(/") 4 21 (14 ∷ 3 ∷ 0 ∷ 0 ∷ [])
+    ∷ card (ascii "Cadd7") 5 21 (7 ∷ 4 ∷ 0 ∷ 0 ∷ [])
+    ∷ card (ascii "C7Maj7") 5 21 (10 ∷ 13 ∷ 14 ∷ 0 ∷ [])
+    ∷ []
+
+-- each is read as the paper says
+pub read-as-said : map (λ (s : Specimen). answer (s .card)) specimens ≡ specimens
+unfolding elem headOf isDigit isLetter lex signOf longestOf words concat count foldOn isMaj join lastSix walk typeOf bits charOf encode isScalar wellFrom readOf displayOf order insert remove allFrom countOf extensionFault firstFrom firstWrong lastBelow semitoneErrors validationOf
+read-as-said = refl

@@ -1,0 +1,1 @@
+// No code: the theorems that answer the demands stand in specs/.
