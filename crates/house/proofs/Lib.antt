@@ -1,0 +1,9 @@
+pub mod Bools
+pub mod Bits
+pub mod Round
+pub mod Invariants
+pub mod Back
+pub mod Allowed
+pub mod Accepted
+pub mod Beyond
+pub mod Displayed

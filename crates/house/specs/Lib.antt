@@ -1,0 +1,2 @@
+pub mod House
+pub mod Struct
