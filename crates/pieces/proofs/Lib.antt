@@ -1,0 +1,4 @@
+pub mod Piecewise
+pub mod TextLemma
+pub mod Length
+pub mod WellFormed
