@@ -1,3 +1,4 @@
-pub mod Specimens
 pub mod Counts
 pub mod Reading
+pub mod Canonical
+pub mod Specimens

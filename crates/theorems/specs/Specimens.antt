@@ -1,4 +1,4 @@
--- The card specimens of document 01 that have a star, as far as reading decides them: one table, and one theorem for all of it.
+-- The card specimens of document 01 that have a star: one table of what is read, and one theorem for all of it; and the starred spellings.
 use mathlib.Core.Bool.{Bool, cond}
 use mathlib.Core.List.{List, [], _∷_, _++_, map}
 use mathlib.Core.Path.{_≡_, refl}
@@ -16,6 +16,7 @@ use Rattle.parser.specs.Parser.{lastSix, walk}
 use Rattle.reader.specs.Reader.{Outcome, numberOf, readOf}
 use Rattle.token.specs.Token.{typeOf}
 use Rattle.utf8.specs.Utf8.{bits, charOf, encode, isScalar, wellFrom}
+use Rattle.theorems.specs.Canonical.{house}
 use Rattle.validator.specs.Validator.{allFrom, countOf, extensionFault, firstFrom, firstWrong, lastBelow, semitoneErrors, validationOf}
 
 -- a card, the answer's number, the root's number (letter times three, and 1 for a sharp, 2 for a flat; 21 for none), and the members of N
@@ -65,3 +66,10 @@ specimens =
 pub read-as-said : map (λ (s : Specimen). answer (s .card)) specimens ≡ specimens
 unfolding elem headOf isDigit isLetter lex signOf longestOf words concat count foldOn isMaj join lastSix walk typeOf bits charOf encode isScalar wellFrom readOf displayOf order insert remove allFrom countOf extensionFault firstFrom firstWrong lastBelow semitoneErrors validationOf
 read-as-said = refl
+
+-- the starred spellings
+pub spelled-as-said : (house (readOf 1028 (ascii "C6/9") .four) ≡ ascii "C,add6,add9")
+    × (house (readOf 1028 (ascii "C69") .four) ≡ ascii "C,add6,add9")
+    × (house (readOf 1028 (ascii "C(omit3,)5") .four) ≡ ascii "C,omit3,omit5")
+unfolding elem headOf isDigit isLetter lex signOf longestOf words concat count foldOn isMaj join lastSix walk typeOf bits charOf encode isScalar wellFrom readOf displayOf order insert remove allFrom countOf extensionFault firstFrom firstWrong lastBelow semitoneErrors validationOf
+spelled-as-said = (refl, refl, refl)

@@ -1,0 +1,213 @@
+-- Demand 3 on the definitions: the house spelling of an accepted text is accepted and reads as the same four, so that equal spellings are
+-- equal fours. The text half is pieces `text-lemma`, the set half is house `same-set`; what validation finds in the set is carried over.
+-- Assumes nothing.
+use mathlib.Core.Bool.{Bool, true, false, not, _&&_, cond}
+use mathlib.Core.List.{List, [], _∷_, _++_}
+use mathlib.Core.Logic.{_↔_}
+use mathlib.Core.Path.{_≡_, refl, sym, ap, subst, _∙_}
+use Prim.Native.Nat.{ℕ, _≤_}
+use native.Mathlib.Omega.{arith}
+use lib.Dec.{T, ltb}
+use lib.ListN.{length}
+use borrow.Author.Tests.{le-ltb}
+use Rattle.chord.specs.Chord.{Four}
+use Rattle.chord.specs.Interval.{Set, empty}
+use Rattle.chord.specs.declared.note.Note.{Note}
+use Rattle.chord.specs.declared.note.OptionalNote.the-variants.{None, Some}
+use Rattle.chord.specs.declared.note.OptionalNote.{OptionalNote}
+use Rattle.evaluator.specs.Display.{displayOf, firstSus}
+use Rattle.evaluator.specs.Evaluator.{evalSet, slashBass}
+use Rattle.expression.specs.ParserError.{numbersOf}
+use Rattle.expression.specs.declared.expression.Exp.{Exp}
+use Rattle.expression.specs.declared.parser_error.ParserError.the-variants.{InconsistentExtension}
+use Rattle.expression.specs.declared.parser_error.ParserError.{ParserError}
+use Rattle.folding.specs.Folding.{preProcess}
+use Rattle.house.proofs.Accepted.{spelled-valid}
+use Rattle.house.proofs.Allowed.{allowed-of}
+use Rattle.house.proofs.Back.{bass-back, kind-back}
+use Rattle.house.proofs.Beyond.{same-set}
+use Rattle.house.proofs.Displayed.{display-kind, kind-displayed}
+use Rattle.house.proofs.Invariants.{struct}
+use Rattle.house.specs.House.{Kind, kindIn, kindOf, spellExps}
+use Rattle.house.specs.Struct.{allowed}
+use Rattle.lexer.specs.Lexer.{tokensOf}
+use Rattle.parser.proofs.Laws.{expressions-sound, root-note}
+use Rattle.parser.specs.All.{All}
+use Rattle.parser.specs.Parser.{parseOf, rootOf}
+use Rattle.pieces.proofs.Length.{length-spelled}
+use Rattle.pieces.proofs.TextLemma.{places, text-lemma}
+use Rattle.pieces.proofs.WellFormed.{spelled-utf8}
+use Rattle.pieces.specs.Spelling.{spell}
+use Rattle.reader.specs.Reader.{Outcome, accepted, judge, numberOf, parsed, readOf, refused, validated}
+use Rattle.reader.specs.declared.Answer.the-variants.{Accepted, LongText, NotUtf8, Parse, ShortList, Validation}
+use Rattle.reader.specs.declared.Answer.{Answer}
+use Rattle.step.specs.Bounds.{Sound}
+use Rattle.token.specs.Token.{Token}
+use Rattle.utf8.specs.Utf8.{wellFormed}
+use Rattle.validator.specs.Validator.{allFrom, conflictAt, expressionErrors, extensionErrors, extensionFault, firstWrong, only, orElse, repeated, semitoneErrors, validationOf}
+
+-- "A text is accepted when each question put to a card gets yes, given an error list that is long enough. Its four are .."
+pub record IsAccepted (t : List ℕ) (f : Four) : Type 0 where
+  pub answer : readOf 1028 t .answer ≡ Accepted
+  pub four : readOf 1028 t .four ≡ f
+
+-- "its house spelling is what the rules under that heading make of these four"; a record without a root has none
+abbrev houseBy : OptionalNote → Four → List ℕ
+houseBy (Some r) f = spell r (f .bass) (f .normalized) (kindIn (f .normalized) (f .display))
+houseBy None f = []
+
+abbrev pub house : Four → List ℕ
+house f = houseBy (f .root) f
+
+-- ---- what acceptance says of each layer
+
+abbrev questions : Bool → Bool → Bool → Outcome → Outcome
+questions a b c o = cond a (refused ShortList) (cond b (refused LongText) (cond c o (refused NotUtf8)))
+
+-- an answer that is no acceptance
+no : (a : Answer) (n : ℕ) → numberOf a ≡ n → 1 ≤ n → a ≡ Accepted → {X : Type 0} → X
+no a n e h w = let z : numberOf a ≡ 0 = ap numberOf w in absurd (omega (arith, e, h, z))
+
+-- no error of the parser, none of validation, and the outcome is the accepted one
+clear : (a b c : Bool) (e₁ e₂ : List ℕ) (o : Outcome) → questions a b c (judge e₁ Parse (judge e₂ Validation o)) .answer ≡ Accepted
+    → (e₁ ≡ []) × (e₂ ≡ []) × (questions a b c (judge e₁ Parse (judge e₂ Validation o)) ≡ o)
+clear true b c e₁ e₂ o w = no ShortList 1 refl (omega arith) w
+clear false true c e₁ e₂ o w = no LongText 2 refl (omega arith) w
+clear false false false e₁ e₂ o w = no NotUtf8 3 refl (omega arith) w
+clear false false true (x ∷ xs) e₂ o w = no (Parse _) 4 refl (omega arith) w
+clear false false true [] (x ∷ xs) o w = no (Validation _) 5 refl (omega arith) w
+clear false false true [] [] o w = (refl, refl, refl)
+
+abbrev tokensIn : List ℕ → List Token
+tokensIn t = preProcess (tokensOf t)
+
+abbrev expsIn : List ℕ → List Exp
+expsIn t = parseOf (tokensIn t) .exps
+
+found : (t : List ℕ) → readOf 1028 t .answer ≡ Accepted
+    → (parseOf (tokensIn t) .errs ≡ []) × (validationOf (expsIn t) (evalSet (expsIn t)) ≡ []) × (readOf 1028 t ≡ accepted (rootOf (tokensIn t)) (expsIn t))
+unfolding readOf
+found t w =
+    clear (ltb 1028 1028) (ltb 256 (length t)) (wellFormed t) (parseOf (tokensIn t) .errs) (validationOf (expsIn t) (evalSet (expsIn t))) (accepted (rootOf (tokensIn t)) (expsIn t)) w
+
+-- ---- what validation says of the set is carried over
+
+cons-nil : {x : ℕ} {l : List ℕ} → x ∷ l ≡ [] → {X : Type 0} → X
+cons-nil e = let z = ap length e in absurd (omega (arith, z))
+
+none-both : (a b : List ℕ) → a ++ b ≡ [] → (a ≡ []) × (b ≡ [])
+none-both [] b e = (refl, e)
+none-both (x ∷ a) b e = cons-nil e
+
+none-else : (a r : List ℕ) → orElse a r ≡ [] → (a ≡ []) × (r ≡ [])
+none-else [] r e = (refl, e)
+none-else (x ∷ a) r e = cons-nil e
+
+-- the parts of validation of which the set decides
+record SetValid (s : Set) : Type 0 where
+  conflicts : allFrom (conflictAt s) 8 0 ≡ []
+  semitones : semitoneErrors s ≡ []
+
+set-valid : (l : List Exp) (s : Set) → validationOf l s ≡ [] → (firstWrong l ≡ []) × SetValid s
+unfolding validationOf
+set-valid l s e =
+    let a = none-both (expressionErrors l) (extensionErrors l s ++ semitoneErrors s) e in
+    let b = none-both (extensionErrors l s) (semitoneErrors s) (a .1) in
+    (none-else (firstWrong l) (repeated l) (a .0) .0, record { conflicts = none-else (extensionFault empty l) (allFrom (conflictAt s) 8 0) (b .0) .1; semitones = b .1 })
+
+all-valid : (l : List Exp) (s : Set) → firstWrong l ≡ [] → repeated l ≡ [] → extensionFault empty l ≡ [] → SetValid s → validationOf l s ≡ []
+unfolding validationOf
+all-valid l s w r f v = λ i. orElse (w i) (r i) ++ (orElse (f i) (v .conflicts i) ++ v .semitones i)
+
+-- no two thirds: the first row of INCOMPAT_SET
+unlit : (a b : Bool) (e : ParserError) (r : List ℕ) → only (a && b) e ++ r ≡ [] → T (not (b && a))
+unlit true true e r h = cons-nil h
+unlit true false e r h = tt
+unlit false true e r h = tt
+unlit false false e r h = tt
+
+one-third : (s : Set) → SetValid s → T (not (s 3 && s 4))
+unfolding allFrom
+one-third s v = unlit (s 4) (s 3) (InconsistentExtension 4) (allFrom (conflictAt s) 7 1) (v .conflicts)
+
+-- ---- the spelling is accepted
+
+-- the answer to a text that has passed the layers
+is-read : (t : List ℕ) → length t ≤ 256 → wellFormed t ≡ true → parseOf (tokensIn t) .errs ≡ [] → validationOf (expsIn t) (evalSet (expsIn t)) ≡ []
+    → readOf 1028 t ≡ accepted (rootOf (tokensIn t)) (expsIn t)
+unfolding readOf
+is-read t h u p v = λ i. questions false (le-ltb 256 (length t) h i) (u i) (judge (p i) Parse (judge (v i) Validation (accepted (rootOf (tokensIn t)) (expsIn t))))
+
+module _ (r : Note) (l : List Exp) (o : T (allowed l)) (v : SetValid (evalSet l)) where
+  abbrev n : Set
+  n = evalSet l
+
+  abbrev k : Kind
+  k = kindOf (firstSus l)
+
+  abbrev b : OptionalNote
+  b = slashBass l
+
+  abbrev text : List ℕ
+  text = spell r b n k
+
+  abbrev l′ : List Exp
+  l′ = spellExps (places r n k) b n k
+
+  same : evalSet l′ ≡ n
+  same = same-set (places r n k) b l o (one-third n v)
+
+  exps : expsIn text ≡ l′
+  exps = text-lemma r b n k .1
+
+  valid : validationOf (expsIn text) (evalSet (expsIn text)) ≡ []
+  valid =
+      let s = spelled-valid (places r n k) b n k in
+      ap (λ (x : List Exp). validationOf x (evalSet x)) exps ∙ ap (λ (q : Set). validationOf l′ q) same ∙ all-valid l′ n (s .0) (s .1) (s .2) v
+
+  reads : readOf 1028 text ≡ accepted (rootOf (tokensIn text)) (expsIn text)
+  reads = let c = length-spelled r b n k in is-read text (omega (arith, c)) (spelled-utf8 r b n k) (text-lemma r b n k .0) valid
+
+  display : displayOf (firstSus l′) (evalSet l′) ≡ displayOf (firstSus l) n
+  display = ap (displayOf (firstSus l′)) same ∙ display-kind (firstSus l′) (firstSus l) n (kind-back (places r n k) b n k)
+
+  spelled-reads : readOf 1028 text ≡ accepted (Some r) l
+  spelled-reads =
+      reads
+      ∙ (λ i. accepted (text-lemma r b n k .2 i) (exps i))
+      ∙ (λ i. record { answer = Accepted; four = record { root = Some r; bass = bass-back (places r n k) b n k i; normalized = same i; display = display i }; errs = [] })
+
+  kind : kindIn n (displayOf (firstSus l) n) ≡ k
+  kind = let c = struct l o in kind-displayed (firstSus l) n (c .s11a) (c .s11b) (c .s11c)
+
+  -- and is the house spelling of the four
+  house-is : house (accepted (Some r) l .four) ≡ text
+  house-is = ap (spell r b n) kind
+
+-- "Every accepted text has a spelling .., which is accepted and reads as the same four."
+pub spelling-accepted : (t : List ℕ) (f : Four) → IsAccepted t f → IsAccepted (house f) f
+spelling-accepted t f a =
+    let w = found t (a .answer) in
+    let l = expsIn t in
+    let q = root-note (tokensIn t) (w .0) in
+    let v = set-valid l (evalSet l) (w .1) in
+    let o = allowed-of (All Sound) (λ e m s. s) l (expressions-sound (tokensIn t)) (v .0) in
+    let e : readOf 1028 t ≡ accepted (Some (q .0)) l = w .2 ∙ ap (λ (x : OptionalNote). accepted x l) (q .1) in
+    let g : accepted (Some (q .0)) l .four ≡ f = ap (λ (x : Outcome). x .four) (sym e) ∙ a .four in
+    let z : readOf 1028 (house (accepted (Some (q .0)) l .four)) ≡ accepted (Some (q .0)) l = ap (readOf 1028) (house-is (q .0) l o (v .1)) ∙ spelled-reads (q .0) l o (v .1) in
+    subst (λ (x : Four). IsAccepted (house x) x) g (record { answer = ap (λ (x : Outcome). x .answer) z; four = ap (λ (x : Outcome). x .four) z })
+
+-- "Two accepted texts have the same house spelling exactly when they have the same four."
+pub same-spelling : (t u : List ℕ) (f g : Four) → IsAccepted t f → IsAccepted u g → (house f ≡ house g) ↔ (f ≡ g)
+same-spelling t u f g a c = (
+  λ e. sym (spelling-accepted t f a .four) ∙ ap (λ (x : List ℕ). readOf 1028 x .four) e ∙ spelling-accepted u g c .four,
+  λ e. ap house e,
+)
+
+-- ".. of at most 112 bytes", for every four
+by-root : (r : OptionalNote) (f : Four) → length (houseBy r f) ≤ 112
+by-root (Some r) f = length-spelled r (f .bass) (f .normalized) (kindIn (f .normalized) (f .display))
+by-root None f = omega arith
+
+pub spelling-short : (f : Four) → length (house f) ≤ 112
+spelling-short f = by-root (f .root) f
