@@ -1,15 +1,15 @@
 -- Demand 3 on the definitions: the house spelling of an accepted text is accepted and reads as the same four, so that equal spellings are
--- equal fours. The text half is pieces `text-lemma`, the set half is house `same-set`; what validation finds in the set is carried over.
+-- equal fours; and which fours some accepted text has. The text half is pieces `text-lemma`, the set half is house `round-at` and `struct`; what validation finds in the set is carried over.
 -- Assumes nothing.
 use mathlib.Core.Bool.{Bool, true, false, not, _&&_, cond}
 use mathlib.Core.List.{List, [], _∷_, _++_}
 use mathlib.Core.Logic.{_↔_}
-use mathlib.Core.Path.{_≡_, refl, sym, ap, subst, _∙_}
+use mathlib.Core.Path.{_≡_, refl, sym, ap, subst, fun-ext, _∙_}
 use Prim.Native.Nat.{ℕ, _≤_}
 use native.Mathlib.Omega.{arith}
 use lib.Dec.{T, ltb}
 use lib.ListN.{length}
-use borrow.Author.Tests.{le-ltb}
+use borrow.Author.Tests.{le-ltb, ltb-false, ltb-true}
 use Rattle.chord.specs.Chord.{Four}
 use Rattle.chord.specs.Interval.{Set, empty}
 use Rattle.chord.specs.declared.note.Note.{Note}
@@ -25,11 +25,12 @@ use Rattle.folding.specs.Folding.{preProcess}
 use Rattle.house.proofs.Accepted.{spelled-valid}
 use Rattle.house.proofs.Allowed.{allowed-of}
 use Rattle.house.proofs.Back.{bass-back, kind-back}
-use Rattle.house.proofs.Beyond.{same-set}
-use Rattle.house.proofs.Displayed.{display-kind, kind-displayed}
+use Rattle.house.proofs.Beyond.{Low, beyond, spelled-allowed}
+use Rattle.house.proofs.Displayed.{display-by, displayBy, kind-displayed}
 use Rattle.house.proofs.Invariants.{struct}
+use Rattle.house.proofs.Round.{round-at}
 use Rattle.house.specs.House.{Kind, kindIn, kindOf, spellExps}
-use Rattle.house.specs.Struct.{allowed}
+use Rattle.house.specs.Struct.{Struct}
 use Rattle.lexer.specs.Lexer.{tokensOf}
 use Rattle.parser.proofs.Laws.{expressions-sound, root-note}
 use Rattle.parser.specs.All.{All}
@@ -104,9 +105,9 @@ none-else [] r e = (refl, e)
 none-else (x ∷ a) r e = cons-nil e
 
 -- the parts of validation of which the set decides
-record SetValid (s : Set) : Type 0 where
-  conflicts : allFrom (conflictAt s) 8 0 ≡ []
-  semitones : semitoneErrors s ≡ []
+pub record SetValid (s : Set) : Type 0 where
+  pub conflicts : allFrom (conflictAt s) 8 0 ≡ []
+  pub semitones : semitoneErrors s ≡ []
 
 set-valid : (l : List Exp) (s : Set) → validationOf l s ≡ [] → (firstWrong l ≡ []) × SetValid s
 unfolding validationOf
@@ -138,64 +139,95 @@ is-read : (t : List ℕ) → length t ≤ 256 → wellFormed t ≡ true → pars
 unfolding readOf
 is-read t h u p v = λ i. questions false (le-ltb 256 (length t) h i) (u i) (judge (p i) Parse (judge (v i) Validation (accepted (rootOf (tokensIn t)) (expsIn t))))
 
-module _ (r : Note) (l : List Exp) (o : T (allowed l)) (v : SetValid (evalSet l)) where
-  abbrev n : Set
-  n = evalSet l
+-- ---- which fours some accepted text has
 
-  abbrev k : Kind
-  k = kindOf (firstSus l)
+-- "Has some accepted text exactly these four?": the record has a root; its set and K meet the 15 clauses, pass validation's tests of the set and
+-- have no member outside the table; and its display list is the one that they give
+pub record Realizable (f : Four) : Type 0 where
+  pub root : Note
+  pub rooted : f .root ≡ Some root
+  pub clauses : Struct (f .normalized) (kindIn (f .normalized) (f .display))
+  pub valid : SetValid (f .normalized)
+  pub within : Low (f .normalized)
+  pub displayed : f .display ≡ displayBy (kindIn (f .normalized) (f .display)) (f .normalized)
 
-  abbrev b : OptionalNote
-  b = slashBass l
-
+module _ (r : Note) (b : OptionalNote) (n : Set) (k : Kind) (c : Struct n k) (v : SetValid n) (w : Low n) where
   abbrev text : List ℕ
   text = spell r b n k
 
   abbrev l′ : List Exp
   l′ = spellExps (places r n k) b n k
 
+  -- below 23 by the round trip, from 23 on neither has a member
   same : evalSet l′ ≡ n
-  same = same-set (places r n k) b l o (one-third n v)
+  same = fun-ext λ j. by j (ltb j 23) refl
+    where
+      by : (j : ℕ) (t : Bool) → ltb j 23 ≡ t → evalSet l′ j ≡ n j
+      by j true e = round-at (places r n k) b n k c (one-third n v) j (ltb-true j 23 e)
+      by j false e = beyond l′ (spelled-allowed (places r n k) b n k) j (ltb-false j 23 e) ∙ sym (w j (ltb-false j 23 e))
 
   exps : expsIn text ≡ l′
   exps = text-lemma r b n k .1
 
-  valid : validationOf (expsIn text) (evalSet (expsIn text)) ≡ []
-  valid =
+  validates : validationOf (expsIn text) (evalSet (expsIn text)) ≡ []
+  validates =
       let s = spelled-valid (places r n k) b n k in
       ap (λ (x : List Exp). validationOf x (evalSet x)) exps ∙ ap (λ (q : Set). validationOf l′ q) same ∙ all-valid l′ n (s .0) (s .1) (s .2) v
 
   reads : readOf 1028 text ≡ accepted (rootOf (tokensIn text)) (expsIn text)
-  reads = let c = length-spelled r b n k in is-read text (omega (arith, c)) (spelled-utf8 r b n k) (text-lemma r b n k .0) valid
+  reads = let h = length-spelled r b n k in is-read text (omega (arith, h)) (spelled-utf8 r b n k) (text-lemma r b n k .0) validates
 
-  display : displayOf (firstSus l′) (evalSet l′) ≡ displayOf (firstSus l) n
-  display = ap (displayOf (firstSus l′)) same ∙ display-kind (firstSus l′) (firstSus l) n (kind-back (places r n k) b n k)
+  display : displayOf (firstSus l′) (evalSet l′) ≡ displayBy k n
+  display = ap (displayOf (firstSus l′)) same ∙ display-by (firstSus l′) n ∙ ap (λ (q : Kind). displayBy q n) (kind-back (places r n k) b n k)
 
-  spelled-reads : readOf 1028 text ≡ accepted (Some r) l
+  -- the spelling of any root and bass with such a set and K is accepted, with these four
+  spelled-reads : readOf 1028 text ≡ record { answer = Accepted; four = record { root = Some r; bass = b; normalized = n; display = displayBy k n }; errs = [] }
   spelled-reads =
       reads
       ∙ (λ i. accepted (text-lemma r b n k .2 i) (exps i))
       ∙ (λ i. record { answer = Accepted; four = record { root = Some r; bass = bass-back (places r n k) b n k i; normalized = same i; display = display i }; errs = [] })
 
-  kind : kindIn n (displayOf (firstSus l) n) ≡ k
-  kind = let c = struct l o in kind-displayed (firstSus l) n (c .s11a) (c .s11b) (c .s11c)
+-- the house spelling of a realizable four is accepted, and has these four
+pub spelling-realizes : (f : Four) → Realizable f → IsAccepted (house f) f
+spelling-realizes f h =
+    let k = kindIn (f .normalized) (f .display) in
+    let e = spelled-reads (h .root) (f .bass) (f .normalized) k (h .clauses) (h .valid) (h .within) in
+    let t : house f ≡ spell (h .root) (f .bass) (f .normalized) k = ap (λ (x : OptionalNote). houseBy x f) (h .rooted) in
+    let z = ap (readOf 1028) t ∙ e in
+    record {
+      answer = ap (λ (x : Outcome). x .answer) z;
+      four = ap (λ (x : Outcome). x .four) z ∙ (λ i. record { root = sym (h .rooted) i; bass = f .bass; normalized = f .normalized; display = sym (h .displayed) i });
+    }
 
-  -- and is the house spelling of the four
-  house-is : house (accepted (Some r) l .four) ≡ text
-  house-is = ap (spell r b n) kind
+-- the four of an accepted text are realizable
+pub accepted-realizable : (t : List ℕ) (f : Four) → IsAccepted t f → Realizable f
+accepted-realizable t f a =
+    let w = found t (a .answer) in
+    let l = expsIn t in
+    let n = evalSet l in
+    let q = root-note (tokensIn t) (w .0) in
+    let v = set-valid l n (w .1) in
+    let o = allowed-of (All Sound) (λ e m s. s) l (expressions-sound (tokensIn t)) (v .0) in
+    let s = struct l o in
+    let k : kindIn n (displayOf (firstSus l) n) ≡ kindOf (firstSus l) = kind-displayed (firstSus l) n (s .s11a) (s .s11b) (s .s11c) in
+    let e : readOf 1028 t ≡ accepted (Some (q .0)) l = w .2 ∙ ap (λ (x : OptionalNote). accepted x l) (q .1) in
+    subst Realizable (ap (λ (x : Outcome). x .four) (sym e) ∙ a .four)
+    (record {
+      root = q .0;
+      rooted = refl;
+      clauses = subst (Struct n) (sym k) s;
+      valid = v .1;
+      within = beyond l o;
+      displayed = display-by (firstSus l) n ∙ ap (λ (x : Kind). displayBy x n) (sym k);
+    })
+
+-- "Has some accepted text exactly these four?" is the question that `Realizable` asks
+pub some-text : (f : Four) → Realizable f ↔ ((t : List ℕ) × IsAccepted t f)
+some-text f = (λ h. (house f, spelling-realizes f h), λ a. accepted-realizable (a .0) f (a .1))
 
 -- "Every accepted text has a spelling .., which is accepted and reads as the same four."
 pub spelling-accepted : (t : List ℕ) (f : Four) → IsAccepted t f → IsAccepted (house f) f
-spelling-accepted t f a =
-    let w = found t (a .answer) in
-    let l = expsIn t in
-    let q = root-note (tokensIn t) (w .0) in
-    let v = set-valid l (evalSet l) (w .1) in
-    let o = allowed-of (All Sound) (λ e m s. s) l (expressions-sound (tokensIn t)) (v .0) in
-    let e : readOf 1028 t ≡ accepted (Some (q .0)) l = w .2 ∙ ap (λ (x : OptionalNote). accepted x l) (q .1) in
-    let g : accepted (Some (q .0)) l .four ≡ f = ap (λ (x : Outcome). x .four) (sym e) ∙ a .four in
-    let z : readOf 1028 (house (accepted (Some (q .0)) l .four)) ≡ accepted (Some (q .0)) l = ap (readOf 1028) (house-is (q .0) l o (v .1)) ∙ spelled-reads (q .0) l o (v .1) in
-    subst (λ (x : Four). IsAccepted (house x) x) g (record { answer = ap (λ (x : Outcome). x .answer) z; four = ap (λ (x : Outcome). x .four) z })
+spelling-accepted t f a = spelling-realizes f (accepted-realizable t f a)
 
 -- "Two accepted texts have the same house spelling exactly when they have the same four."
 pub same-spelling : (t u : List ℕ) (f g : Four) → IsAccepted t f → IsAccepted u g → (house f ≡ house g) ↔ (f ≡ g)
