@@ -1,6 +1,5 @@
 -- The house spelling in bytes: the root, then the text of each part that the set N and K name, in the order of `parts`, which has the
--- conditions. There is no argument here: these are definitions.
--- Assumes nothing.
+-- conditions.
 use mathlib.Core.Bool.{cond}
 use mathlib.Core.List.{List, [], _∷_, _++_}
 use Prim.Native.Nat.{ℕ}
