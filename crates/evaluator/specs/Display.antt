@@ -1,4 +1,4 @@
--- The display list: "sorted by semitones with the shown second or fourth in its place" (`set_intervals`).
+-- The display list (`set_intervals`): the members sorted by semitones, with the second or fourth that a sus shows in its place.
 use mathlib.Core.Bool.{cond, _&&_}
 use mathlib.Core.List.{List, [], _∷_, map}
 use Prim.Native.Nat.{ℕ}

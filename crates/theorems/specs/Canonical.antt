@@ -225,18 +225,18 @@ accepted-realizable t f a =
 pub some-text : (f : Four) → Realizable f ↔ ((t : List ℕ) × IsAccepted t f)
 some-text f = (λ h. (house f, spelling-realizes f h), λ a. accepted-realizable (a .0) f (a .1))
 
--- "Every accepted text has a spelling .., which is accepted and reads as the same four."
+-- Demand 3: every accepted text has a spelling, which is accepted and reads as the same four.
 pub spelling-accepted : (t : List ℕ) (f : Four) → IsAccepted t f → IsAccepted (house f) f
 spelling-accepted t f a = spelling-realizes f (accepted-realizable t f a)
 
--- "Two accepted texts have the same house spelling exactly when they have the same four."
+-- Demand 3: two accepted texts have the same house spelling exactly when they have the same four.
 pub same-spelling : (t u : List ℕ) (f g : Four) → IsAccepted t f → IsAccepted u g → (house f ≡ house g) ↔ (f ≡ g)
 same-spelling t u f g a c = (
   λ e. sym (spelling-accepted t f a .four) ∙ ap (λ (x : List ℕ). readOf 1028 x .four) e ∙ spelling-accepted u g c .four,
   λ e. ap house e,
 )
 
--- ".. of at most 112 bytes", for every four
+-- Demand 3: at most 112 bytes; so it is for every four
 by-root : (r : OptionalNote) (f : Four) → length (houseBy r f) ≤ 112
 by-root (Some r) f = length-spelled r (f .bass) (f .normalized) (kindIn (f .normalized) (f .display))
 by-root None f = omega arith
