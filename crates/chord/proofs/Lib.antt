@@ -1,3 +1,3 @@
-mod Store
+pub mod Store
 mod Same
 pub mod Semitones

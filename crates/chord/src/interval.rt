@@ -193,7 +193,7 @@ impl IntervalList {
     }
 
     // How many numbers the list has.
-    pub(crate) fn count(self) -> usize
+    pub fn count(self) -> usize
         ensures { λ r. ⌜ (r ≡ length (listed self)) × (r ≤ 23) ⌝ }
     {
         let len = self.len;
@@ -201,7 +201,7 @@ impl IntervalList {
     }
 
     // Have the two lists the same numbers in the same order?
-    pub(crate) fn same(self, other: IntervalList) -> bool
+    pub fn same(self, other: IntervalList) -> bool
         ensures { λ r. ⌜ ((r ≡ true) ↔ (listed self ≡ listed other)) ⌝ }
     {
         let n = self.count();

@@ -108,8 +108,8 @@ fn push_shown(l: IntervalList, s: IntervalSet, k: u8, i: u8) -> IntervalList
     l
 }
 
-// The display list of a set.
-pub(crate) fn display(k: u8, s: IntervalSet) -> IntervalList
+// The display list of a set, where the first sus is of the interval k; k is any other number where there is none.
+pub fn display(k: u8, s: IntervalSet) -> IntervalList
     ensures { λ r. ⌜ listed r ≡ displayOf k (members s) ⌝ }
 {
     let mut l = IntervalList {

@@ -15,9 +15,11 @@ use Rattle.expression.specs.ParserError.{numbersOf}
 use Rattle.expression.specs.declared.expression.Exp.the-variants.{Power, Bass, Maj, Maj7, Minor, HalfDim, Dim, Dim7, Alt, Aug, Sus, Extension, Add, Omit, SlashBass}
 use Rattle.expression.specs.declared.expression.Exp.{Exp}
 use Rattle.expression.specs.declared.parser_error.ParserError.the-variants.{DuplicateModifier, DuplicateExtension, InvalidExtension}
-use Rattle.validator.specs.Validator.{among, badExtensions, countOf, extensionFault, faultOf, firstFrom, firstWrong, only, orElse, priorityOf, repeated, repeatedAt, seeing, wrongOf}
-use Rattle.house.specs.House.{Kind, Plain, KFlat2, KSecond, KSharp4, Part, part, parts, select, spellExps}
-use Rattle.house.proofs.Allowed.{isNil, nil}
+use Rattle.validator.specs.Validator.{among, badExtensions, countOf, extensionFault, faultOf, firstFrom, firstWrong, isNil, only, orElse, priorityOf, repeated, repeatedAt, seeing, wrongOf}
+use Rattle.house.specs.House.{Part, part, parts, select, spellExps}
+use Rattle.house.specs.declared.kind.Kind.the-variants.{Plain, Flat2, Second, Sharp4}
+use Rattle.house.specs.declared.kind.Kind.{Kind}
+use Rattle.house.proofs.Allowed.{nil}
 use Rattle.house.proofs.Bools.{and-left, and-right}
 
 -- no part has a wrong target
@@ -82,9 +84,9 @@ few-none counts most h (suc n) i t =
 -- the parts have at most one of each priority below 15, whatever N is
 few-parts : (p : ℕ → ℕ) (b : OptionalNote) (n : Set) (k : Kind) → T (fewFrom (mostParts (parts p b n k)) 15 0)
 few-parts p b n Plain = tt
-few-parts p b n KFlat2 = tt
-few-parts p b n KSecond = tt
-few-parts p b n KSharp4 = tt
+few-parts p b n Flat2 = tt
+few-parts p b n Second = tt
+few-parts p b n Sharp4 = tt
 
 -- the spelled expressions repeat no priority
 pub no-repeat : (p : ℕ → ℕ) (b : OptionalNote) (n : Set) (k : Kind) → repeated (spellExps p b n k) ≡ []

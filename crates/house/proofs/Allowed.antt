@@ -10,23 +10,14 @@ use Rattle.expression.specs.declared.expression.Exp.the-variants.{Power, Bass, 
 use Rattle.expression.specs.declared.expression.Exp.{Exp}
 use Rattle.expression.specs.declared.parser_error.ParserError.the-variants.{WrongExpressionTarget}
 use Rattle.step.specs.Bounds.{Sound}
-use Rattle.validator.specs.Validator.{addTargets, among, firstWrong, omitTargets, only, orElse, wrongOf}
-use Rattle.house.specs.Struct.{allowed, allows}
-
--- is nothing in the list?
-abbrev pub isNil : List ℕ → Bool
-isNil [] = true
-isNil (x ∷ l) = false
+use Rattle.validator.specs.Validator.{addTargets, among, firstWrong, isNil, omitTargets, only, orElse, wrongOf}
+use Rattle.house.proofs.Bools.{both-pass}
+use Rattle.house.proofs.Struct.{allowed, allows}
 
 -- a list that passes the test has nothing
 pub nil : (l : List ℕ) → T (isNil l) → l ≡ []
 nil [] t = refl
 nil (x ∷ l) t = absurd t
-
--- both tests pass
-pub both-pass : (a b : Bool) → T a → T b → T (a && b)
-both-pass true b s t = t
-both-pass false b s t = absurd s
 
 -- no error, so the target is right
 target-right : (b : Bool) (p : ℕ) → only (not b) (WrongExpressionTarget p) ≡ [] → T b

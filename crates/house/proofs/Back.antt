@@ -13,8 +13,10 @@ use Rattle.evaluator.specs.Display.{firstSus, susOf}
 use Rattle.evaluator.specs.Evaluator.{bassOf, evalSet, slashBass, walk}
 use Rattle.expression.specs.declared.expression.Exp.the-variants.{Power, Bass, Maj, Maj7, Minor, HalfDim, Dim, Dim7, Alt, Aug, Sus, Extension, Add, Omit, SlashBass}
 use Rattle.expression.specs.declared.expression.Exp.{Exp}
-use Rattle.house.specs.House.{Kind, Plain, KFlat2, KSecond, KSharp4, Part, part, hasBass, kindOf, parts, select, spellExps}
-use Rattle.house.specs.Struct.{allowed}
+use Rattle.house.specs.House.{Part, part, isSome, kindOf, parts, select, spellExps}
+use Rattle.house.specs.declared.kind.Kind.the-variants.{Plain, Flat2, Second, Sharp4}
+use Rattle.house.specs.declared.kind.Kind.{Kind}
+use Rattle.house.proofs.Struct.{allowed}
 use Rattle.house.proofs.Invariants.{struct}
 use Rattle.house.proofs.Round.{table, round, round-at}
 
@@ -68,13 +70,13 @@ sus-select (part false e ∷ gs) = sus-select gs ∙ both (silent e) (susParts g
 -- the spelled expressions have the K that was spelled
 pub kind-back : (p : ℕ → ℕ) (b : OptionalNote) (n : Set) (k : Kind) → kindOf (firstSus (spellExps p b n k)) ≡ k
 kind-back p b n Plain = ap kindOf (sus-select (parts p b n Plain))
-kind-back p b n KFlat2 = ap kindOf (sus-select (parts p b n KFlat2))
-kind-back p b n KSecond = ap kindOf (sus-select (parts p b n KSecond))
-kind-back p b n KSharp4 = ap kindOf (sus-select (parts p b n KSharp4))
+kind-back p b n Flat2 = ap kindOf (sus-select (parts p b n Flat2))
+kind-back p b n Second = ap kindOf (sus-select (parts p b n Second))
+kind-back p b n Sharp4 = ap kindOf (sus-select (parts p b n Sharp4))
 
 -- an expression that sets a slash bass
 abbrev slashes : Exp → Bool
-slashes e = hasBass (bassOf optional.None e)
+slashes e = isSome (bassOf optional.None e)
 
 -- the slash bass of the selected parts, going on from b
 abbrev bassParts : OptionalNote → List Part → OptionalNote

@@ -17,15 +17,12 @@ use Rattle.evaluator.specs.declared.ast.BaseForm.the-variants as form
 use Rattle.evaluator.specs.declared.ast.BaseForm.{BaseForm}
 use Rattle.expression.specs.declared.expression.Exp.the-variants.{Power, Bass, Maj, Maj7, Minor, HalfDim, Dim, Dim7, Alt, Aug, Sus, Extension, Add, Omit, SlashBass}
 use Rattle.expression.specs.declared.expression.Exp.{Exp}
-use Rattle.house.specs.House.{Kind, Part, part, kindOf, parts, select, spellExps}
-use Rattle.house.specs.Struct.{allowed, allows}
-use Rattle.house.proofs.Allowed.{both-pass}
+use Rattle.house.specs.House.{Part, part, kindOf, parts, select, spellExps}
+use Rattle.house.specs.declared.kind.Kind.{Kind}
+use Rattle.house.specs.Question.{Low}
 use Rattle.house.proofs.Back.{back-at}
-use Rattle.house.proofs.Bools.{and-left, and-right}
-
--- no member from 23 on
-abbrev pub Low : Set → Type 0
-Low s = (j : ℕ) → 23 ≤ j → s j ≡ false
+use Rattle.house.proofs.Bools.{and-left, and-right, both-pass}
+use Rattle.house.proofs.Struct.{allowed, allows}
 
 -- a number below 23 is no number from 23 on
 apart : (i j : ℕ) → i < 23 → 23 ≤ j → eqb i j ≡ false

@@ -5,7 +5,7 @@ use mathlib.Core.Path.{_≡_, refl}
 use mathlib.Core.Bool.{Bool, true, false, not, _&&_, _||_, Bool·beq}
 use Prim.Native.Nat.{ℕ, zero, suc}
 use lib.Dec.{T}
-use Rattle.house.specs.Struct.{_⇒_}
+use Rattle.house.specs.Question.{_⇒_}
 
 infix 15 _≈_
 infixr 10 _⊃_
@@ -34,6 +34,11 @@ every (suc n) p = every n (p true) && every n (p false)
 abbrev pub Holds : (n : ℕ) → Pred n → Type 0
 Holds zero p = Means p
 Holds (suc n) p = (b : Bool) → Holds n (p b)
+
+-- both tests pass
+pub both-pass : (a b : Bool) → T a → T b → T (a && b)
+both-pass true b s t = t
+both-pass false b s t = absurd s
 
 pub and-left : (a b : Bool) → T (a && b) → T a
 and-left true b t = tt

@@ -10,20 +10,11 @@ use lib.Dec.{T, eqb, eqb→eq}
 use Rattle.chord.specs.Interval.{Set, semitones}
 use Rattle.evaluator.specs.Display.{chosen, displayOf, numbers, order, shown, sortBy}
 use Rattle.evaluator.specs.Evaluator.{any, elem}
-use Rattle.house.specs.House.{Kind, Plain, KFlat2, KSecond, KSharp4, isFlat2, isSecond, isSharp4, kindIn, kindOf}
-use Rattle.house.specs.Struct.{_⇒_}
+use Rattle.house.specs.House.{displayBy, isFlat2, isSecond, isSharp4, kindIn, kindOf, susBy}
+use Rattle.house.specs.declared.kind.Kind.the-variants.{Plain, Flat2, Second, Sharp4}
+use Rattle.house.specs.declared.kind.Kind.{Kind}
+use Rattle.house.specs.Question.{_⇒_}
 use Rattle.house.proofs.Bools.{law, _≈_, _⊃_}
-
--- a first Sus of each K; 0 is none
-abbrev pub susBy : Kind → ℕ
-susBy Plain = 0
-susBy KFlat2 = 1
-susBy KSecond = 2
-susBy KSharp4 = 6
-
--- the display list of each K
-abbrev pub displayBy : Kind → Set → List ℕ
-displayBy k s = displayOf (susBy k) s
 
 -- what an interval is shown as, by the three tests of the first Sus
 abbrev shownBy : Bool → Bool → Bool → ℕ → ℕ
@@ -44,7 +35,7 @@ plain x s p q r = λ t. listBy (p t) (q t) (r t) s
 
 -- by what the three tests say
 by-tests : (x : ℕ) (s : Set) (a b c : Bool) → eqb x 1 ≡ a → eqb x 2 ≡ b → eqb x 6 ≡ c
-    → displayOf x s ≡ displayBy (cond a KFlat2 (cond b KSecond (cond c KSharp4 Plain))) s
+    → displayOf x s ≡ displayBy (cond a Flat2 (cond b Second (cond c Sharp4 Plain))) s
 by-tests x s true b c p q r = found x 1 s p
 by-tests x s false true c p q r = found x 2 s q
 by-tests x s false false true p q r = found x 6 s r
@@ -92,19 +83,19 @@ kind-by Plain s f g h =
     let p = stays (s 16) _ (in-list Plain 16 s) in
     let q = stays (s 17) _ (in-list Plain 17 s) in
     let r = stays (s 20) _ (in-list Plain 20 s) in
-    λ t. cond (p t) KFlat2 (cond (q t) KSecond (cond (r t) KSharp4 Plain))
-kind-by KFlat2 s f g h =
-    let p = away (s 16) _ f (in-list KFlat2 16 s) in
-    λ t. cond (p t) KFlat2 (cond (s 17 && not (elem 17 (displayBy KFlat2 s))) KSecond (cond (s 20 && not (elem 20 (displayBy KFlat2 s))) KSharp4 Plain))
-kind-by KSecond s f g h =
-    let p = stays (s 16) _ (in-list KSecond 16 s) in
-    let q = away (s 17) _ g (in-list KSecond 17 s) in
-    λ t. cond (p t) KFlat2 (cond (q t) KSecond (cond (s 20 && not (elem 20 (displayBy KSecond s))) KSharp4 Plain))
-kind-by KSharp4 s f g h =
-    let p = stays (s 16) _ (in-list KSharp4 16 s) in
-    let q = stays (s 17) _ (in-list KSharp4 17 s) in
-    let r = away (s 20) _ h (in-list KSharp4 20 s) in
-    λ t. cond (p t) KFlat2 (cond (q t) KSecond (cond (r t) KSharp4 Plain))
+    λ t. cond (p t) Flat2 (cond (q t) Second (cond (r t) Sharp4 Plain))
+kind-by Flat2 s f g h =
+    let p = away (s 16) _ f (in-list Flat2 16 s) in
+    λ t. cond (p t) Flat2 (cond (s 17 && not (elem 17 (displayBy Flat2 s))) Second (cond (s 20 && not (elem 20 (displayBy Flat2 s))) Sharp4 Plain))
+kind-by Second s f g h =
+    let p = stays (s 16) _ (in-list Second 16 s) in
+    let q = away (s 17) _ g (in-list Second 17 s) in
+    λ t. cond (p t) Flat2 (cond (q t) Second (cond (s 20 && not (elem 20 (displayBy Second s))) Sharp4 Plain))
+kind-by Sharp4 s f g h =
+    let p = stays (s 16) _ (in-list Sharp4 16 s) in
+    let q = stays (s 17) _ (in-list Sharp4 17 s) in
+    let r = away (s 20) _ h (in-list Sharp4 20 s) in
+    λ t. cond (p t) Flat2 (cond (q t) Second (cond (r t) Sharp4 Plain))
 
 -- K read off a set and its display list is the K of the first Sus, where K b2 comes with b9, K 2 with 9, K #4 with #11
 pub kind-displayed : (x : ℕ) (s : Set) → T (isFlat2 (kindOf x) ⇒ s 16) → T (isSecond (kindOf x) ⇒ s 17) → T (isSharp4 (kindOf x) ⇒ s 20)

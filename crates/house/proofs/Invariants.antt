@@ -18,8 +18,11 @@ use Rattle.evaluator.specs.declared.ast.BaseForm.{BaseForm}
 use Rattle.expression.specs.declared.expression.Exp.the-variants.{Power, Bass, Maj, Maj7, Minor, HalfDim, Dim, Dim7, Alt, Aug, Sus, Extension, Add, Omit, SlashBass}
 use Rattle.expression.specs.declared.expression.Exp.{Exp}
 use Rattle.validator.specs.Validator.{among}
-use Rattle.house.specs.House.{Kind, Plain, isFlat2, isSecond, isSharp4, isSus, kindOf}
-use Rattle.house.specs.Struct.{Struct, _⇒_, allowed, allows}
+use Rattle.house.specs.House.{isFlat2, isSecond, isSharp4, isSus, kindOf}
+use Rattle.house.specs.declared.kind.Kind.the-variants.{Plain}
+use Rattle.house.specs.declared.kind.Kind.{Kind}
+use Rattle.house.specs.Question.{_⇒_}
+use Rattle.house.proofs.Struct.{Struct, allowed, allows}
 use Rattle.house.proofs.Bits.{Bitwise, full, bw-id, bw-insert, bw-remove, bw-replace, bw-remove2, bw-then, bw-direct, bw-alterBy, bw-omitBy, bw-addBy, prune6At, prune11At, prune-at}
 use Rattle.house.proofs.Bools.{law, _≈_, _⊃_, and-left, and-right, mp}
 

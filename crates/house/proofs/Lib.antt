@@ -1,4 +1,6 @@
 pub mod Bools
+pub mod Struct
+pub mod Tests
 pub mod Bits
 pub mod Round
 pub mod Invariants

@@ -12,17 +12,20 @@ use lib.Seq.{ext-getD}
 use Rattle.chord.specs.Interval.{Set, insert, remove}
 use Rattle.chord.specs.declared.note.OptionalNote.{OptionalNote}
 use Rattle.evaluator.specs.Evaluator.{evalSet}
-use Rattle.house.specs.House.{Kind, Plain, KFlat2, KSecond, KSharp4, isFlat2, isSecond, isSharp4, isSus, parts, spellExps}
-use Rattle.house.specs.Struct.{Struct, _⇒_}
+use Rattle.house.specs.House.{isFlat2, isSecond, isSharp4, isSus, parts, spellExps}
+use Rattle.house.specs.declared.kind.Kind.the-variants.{Plain, Flat2, Second, Sharp4}
+use Rattle.house.specs.declared.kind.Kind.{Kind}
+use Rattle.house.specs.Question.{_⇒_}
 use Rattle.house.proofs.Bits.{evalParts, eval-parts}
 use Rattle.house.proofs.Bools.{law, Pred, Holds, every, _≈_, _⊃_, and-left, and-right}
+use Rattle.house.proofs.Struct.{Struct}
 
 -- a law for each kind
-pub lawK : (m : ℕ) (q : Kind → Pred m) → T (every m (q Plain) && (every m (q KFlat2) && (every m (q KSecond) && every m (q KSharp4)))) → (k : Kind) → Holds m (q k)
+pub lawK : (m : ℕ) (q : Kind → Pred m) → T (every m (q Plain) && (every m (q Flat2) && (every m (q Second) && every m (q Sharp4)))) → (k : Kind) → Holds m (q k)
 lawK m q t Plain = law m (q Plain) (and-left (every m (q Plain)) _ t)
-lawK m q t KFlat2 = law m (q KFlat2) (and-left (every m (q KFlat2)) _ (and-right (every m (q Plain)) _ t))
-lawK m q t KSecond = law m (q KSecond) (and-left (every m (q KSecond)) _ (and-right (every m (q KFlat2)) _ (and-right (every m (q Plain)) _ t)))
-lawK m q t KSharp4 = law m (q KSharp4) (and-right (every m (q KSecond)) _ (and-right (every m (q KFlat2)) _ (and-right (every m (q Plain)) _ t)))
+lawK m q t Flat2 = law m (q Flat2) (and-left (every m (q Flat2)) _ (and-right (every m (q Plain)) _ t))
+lawK m q t Second = law m (q Second) (and-left (every m (q Second)) _ (and-right (every m (q Flat2)) _ (and-right (every m (q Plain)) _ t)))
+lawK m q t Sharp4 = law m (q Sharp4) (and-right (every m (q Second)) _ (and-right (every m (q Flat2)) _ (and-right (every m (q Plain)) _ t)))
 
 -- a set as an array of n Booleans has it
 abbrev pub tab : ℕ → Set → List Bool

@@ -3,59 +3,77 @@ use mathlib.Core.Bool.{Bool, true, false, not, _&&_, _||_, cond}
 use mathlib.Core.List.{List, [], _∷_}
 use Prim.Native.Nat.{ℕ}
 use lib.Dec.{eqb}
+use lib.ListN.{getD}
 use Rattle.chord.specs.Interval.{Set, minorSecond, majorSecond, minorThird, majorThird, perfectFourth, augmentedFourth, diminishedFifth, perfectFifth, augmentedFifth, minorSixth, majorSixth, diminishedSeventh, minorSeventh, majorSeventh, flatNinth, ninth, sharpNinth, eleventh, sharpEleventh, flatThirteenth, thirteenth}
 use Rattle.chord.specs.Note.{noteOf}
 use Rattle.chord.specs.declared.note.Note.{Note}
 use Rattle.chord.specs.declared.note.OptionalNote.the-variants as optional
 use Rattle.chord.specs.declared.note.OptionalNote.{OptionalNote}
+use Rattle.evaluator.specs.Display.{displayOf}
 use Rattle.evaluator.specs.Evaluator.{elem}
 use Rattle.expression.specs.declared.expression.Exp.the-variants.{Minor, Dim7, Sus, Extension, Add, Omit, SlashBass}
 use Rattle.expression.specs.declared.expression.Exp.{Exp}
+use Rattle.house.specs.declared.kind.Kind.the-variants.{Plain, Flat2, Second, Sharp4}
+use Rattle.house.specs.declared.kind.Kind.{Kind}
 
--- "K is the one of b2, 2, #4 that the display list shows for b9, 9, #11 in the normalized set N, or none."
-pub data Kind : Type 0 where
-  Plain KFlat2 KSecond KSharp4 : Kind
-
+-- which K it is
 abbrev pub isFlat2 : Kind → Bool
 isFlat2 Plain = false
-isFlat2 KFlat2 = true
-isFlat2 KSecond = false
-isFlat2 KSharp4 = false
+isFlat2 Flat2 = true
+isFlat2 Second = false
+isFlat2 Sharp4 = false
 
 abbrev pub isSecond : Kind → Bool
 isSecond Plain = false
-isSecond KFlat2 = false
-isSecond KSecond = true
-isSecond KSharp4 = false
+isSecond Flat2 = false
+isSecond Second = true
+isSecond Sharp4 = false
 
 abbrev pub isSharp4 : Kind → Bool
 isSharp4 Plain = false
-isSharp4 KFlat2 = false
-isSharp4 KSecond = false
-isSharp4 KSharp4 = true
+isSharp4 Flat2 = false
+isSharp4 Second = false
+isSharp4 Sharp4 = true
 
 abbrev pub isSus : Kind → Bool
 isSus Plain = false
-isSus KFlat2 = true
-isSus KSecond = true
-isSus KSharp4 = true
+isSus Flat2 = true
+isSus Second = true
+isSus Sharp4 = true
 
 -- the K of a first Sus of the interval x (`firstSus`; 0 where there is none)
 abbrev pub kindOf : ℕ → Kind
-kindOf x = cond (eqb x minorSecond) KFlat2 (cond (eqb x majorSecond) KSecond (cond (eqb x augmentedFourth) KSharp4 Plain))
+kindOf x = cond (eqb x minorSecond) Flat2 (cond (eqb x majorSecond) Second (cond (eqb x augmentedFourth) Sharp4 Plain))
 
 -- the K of a record with the set n and the display list d: "K is the one of b2, 2, #4 that the display list shows for b9, 9, #11 in the
 -- normalized set N, or none." It is shown for the high one where the high one is in N and absent from the display list.
 abbrev pub kindIn : Set → List ℕ → Kind
 kindIn n d =
-    cond (n flatNinth && not (elem flatNinth d)) KFlat2
-    (cond (n ninth && not (elem ninth d)) KSecond
-    (cond (n sharpEleventh && not (elem sharpEleventh d)) KSharp4
+    cond (n flatNinth && not (elem flatNinth d)) Flat2
+    (cond (n ninth && not (elem ninth d)) Second
+    (cond (n sharpEleventh && not (elem sharpEleventh d)) Sharp4
     Plain))
+
+-- a first Sus of each K; 0 is none
+abbrev pub susBy : Kind → ℕ
+susBy Plain = 0
+susBy Flat2 = minorSecond
+susBy Second = majorSecond
+susBy Sharp4 = augmentedFourth
+
+-- the display list that a set has by K
+abbrev pub displayBy : Kind → Set → List ℕ
+displayBy k s = displayOf (susBy k) s
 
 -- an expression with the condition under which it is named
 pub data Part : Type 0 where
   part : Bool → Exp → Part
+
+abbrev pub condition : Part → Bool
+condition (part c e) = c
+
+abbrev pub conditionAt : ℕ → List Part → Bool
+conditionAt i ps = condition (getD ps i (part false Dim7))
 
 abbrev pub given : Bool → Exp → List Exp → List Exp
 given true e l = e ∷ l
@@ -73,13 +91,14 @@ omit3 n k = not (isSus k) && (not (n minorThird) && not (n majorThird) || n majo
 abbrev pub omit5 : Set → Bool
 omit5 n = not (n perfectFifth) && not (n diminishedFifth) && not (n augmentedFifth) && (not (n flatThirteenth) || n diminishedSeventh)
 
-abbrev pub hasBass : OptionalNote → Bool
-hasBass optional.None = false
-hasBass (optional.Some b) = true
+-- is there a note, and which; C where there is none
+abbrev pub isSome : OptionalNote → Bool
+isSome optional.None = false
+isSome (optional.Some b) = true
 
-abbrev pub bassNote : OptionalNote → Note
-bassNote optional.None = noteOf 0
-bassNote (optional.Some b) = b
+abbrev pub noteIn : OptionalNote → Note
+noteIn optional.None = noteOf 0
+noteIn (optional.Some b) = b
 
 -- "Written in order: .. `dim7` if N has bb7, else `m` if it has b3; then .. `b5` if N has it and not bb7; `#5` and `7` if N has them; `susb2`,
 -- `sus2` or `sus#4` by K; `omit3` ..; `omit5` ..; `add` with each member of N among 2, 3 (only with K or bb7), 4, b6, 6, Maj7, b9, 9, #9, 11, #11,
@@ -109,7 +128,7 @@ parts p b n k =
     ∷ part (n sharpEleventh && not (isSharp4 k)) (Add sharpEleventh (p 20))
     ∷ part (n flatThirteenth) (Add flatThirteenth (p 21))
     ∷ part (n thirteenth) (Add thirteenth (p 22))
-    ∷ part (hasBass b) (SlashBass (bassNote b))
+    ∷ part (isSome b) (SlashBass (noteIn b))
     ∷ []
 
 abbrev pub spellExps : (ℕ → ℕ) → OptionalNote → Set → Kind → List Exp

@@ -1,2 +1,2 @@
 pub mod House
-pub mod Struct
+pub mod Question

@@ -1,1 +1,4 @@
-// No code: the definition of the house spelling, on sets and expressions, and theorems about it, stand in specs/ and proofs/.
+// The house spelling on sets: K, the parts that it names, and the question whether some accepted text has a record's four.
+pub mod kind;
+pub mod parts;
+pub mod question;

@@ -6,6 +6,7 @@ use mathlib.Core.Path.{_≡_, refl, ap}
 use Prim.Native.Nat.{ℕ, _+_, _≤_}
 use native.Mathlib.Omega.{arith}
 use lib.ListN.{length, length-append, take, drop}
+use Rattle.chord.specs.Chord.{Four}
 use Rattle.chord.specs.Interval.{Set}
 use Rattle.chord.specs.declared.note.Note.{Note}
 use Rattle.chord.specs.declared.note.NoteLiteral.the-variants.{C, D, E, F, G, A, B}
@@ -14,8 +15,10 @@ use Rattle.chord.specs.declared.note.OptionalNote.the-variants.{None, Some}
 use Rattle.chord.specs.declared.note.OptionalNote.{OptionalNote}
 use Rattle.chord.specs.declared.note.RootModifier.the-variants.{Natural, Sharp, Flat}
 use Rattle.chord.specs.declared.note.RootModifier.{RootModifier}
-use Rattle.house.specs.House.{Kind, Plain, KFlat2, KSecond, KSharp4}
-use Rattle.pieces.specs.Spelling.{letterText, signText, noteText, spell}
+use Rattle.house.specs.House.{kindIn}
+use Rattle.house.specs.declared.kind.Kind.the-variants.{Plain, Flat2, Second, Sharp4}
+use Rattle.house.specs.declared.kind.Kind.{Kind}
+use Rattle.pieces.specs.Spelling.{house, houseBy, letterText, signText, noteText, spell}
 use Rattle.pieces.proofs.Piecewise.{Piece, piece, pieces}
 use Rattle.pieces.proofs.TextLemma.{Form, plain, minor, diminished, formOf, formText, headText, textOf, bassText, spelled}
 
@@ -64,9 +67,9 @@ bass-length (Some n) = omega (arith, length-append (47 ∷ noteText n) [], note-
 -- of the three sus at most one stands
 sus-length : (n : Set) (k : Kind) (r : List ℕ) → length (textOf (take 3 (drop 3 (pieces n k))) r) ≤ 6 + length r
 sus-length n Plain r = omega arith
-sus-length n KFlat2 r = omega arith
-sus-length n KSecond r = omega arith
-sus-length n KSharp4 r = omega arith
+sus-length n Flat2 r = omega arith
+sus-length n Second r = omega arith
+sus-length n Sharp4 r = omega arith
 
 -- the parts together
 pub length-spelled : (root : Note) (bass : OptionalNote) (n : Set) (k : Kind) → length (spell root bass n k) ≤ 112
@@ -89,3 +92,11 @@ length-spelled root bass n k =
       f,
       g,
     )
+
+-- and of every four
+by-root : (r : OptionalNote) (f : Four) → length (houseBy r f) ≤ 112
+by-root (Some r) f = length-spelled r (f .bass) (f .normalized) (kindIn (f .normalized) (f .display))
+by-root None f = omega arith
+
+pub house-length : (f : Four) → length (house f) ≤ 112
+house-length f = by-root (f .root) f

@@ -14,7 +14,8 @@ use Rattle.chord.specs.declared.note.RootModifier.the-variants.{Natural}
 use Rattle.expression.specs.declared.expression.Exp.the-variants.{Sus, Extension, Add, Omit}
 use Rattle.expression.specs.declared.expression.Exp.{Exp}
 use Rattle.folding.specs.Folding.{concat, count, dim, is, isMaj, maj, seven, whole}
-use Rattle.house.specs.House.{Kind, isFlat2, isSecond, isSharp4, isSus, omit3, omit5}
+use Rattle.house.specs.House.{isFlat2, isSecond, isSharp4, isSus, omit3, omit5}
+use Rattle.house.specs.declared.kind.Kind.{Kind}
 use Rattle.lexer.specs.Lexer.{elem, headOf, isDigit, isLetter, lex, signOf}
 use Rattle.lexer.specs.Text.{ascii}
 use Rattle.lexer.specs.Words.{longestOf, words}

@@ -23,7 +23,8 @@ use Rattle.expression.specs.declared.expression.Exp.the-variants.{Minor, Dim7, 
 use Rattle.expression.specs.declared.expression.Exp.{Exp}
 use Rattle.folding.proofs.Calm.{calm, unchanged, in-two}
 use Rattle.folding.specs.Folding.{concat, count, dim, dim7, fold7, foldOn, isMaj, join, maj, maj7, preProcess}
-use Rattle.house.specs.House.{Kind, given, hasBass, bassNote, spellExps}
+use Rattle.house.specs.House.{given, isSome, noteIn, spellExps}
+use Rattle.house.specs.declared.kind.Kind.{Kind}
 use Rattle.lexer.specs.Lexer.{elem, endOf, headOf, isDigit, isLetter, lex, signOf, tokensOf}
 use Rattle.lexer.specs.Text.{ascii}
 use Rattle.lexer.specs.Words.{longestOf, words}
@@ -322,10 +323,10 @@ head-apart Flat diminished = each-letter (λ (l : NoteLiteral). (r : List ℕ) �
 
 -- as `written` ends
 abbrev pub bassText : OptionalNote → List ℕ
-bassText b = cond (hasBass b) (ascii "/" ++ noteText (bassNote b)) [] ++ []
+bassText b = cond (isSome b) (ascii "/" ++ noteText (noteIn b)) [] ++ []
 
 abbrev pub bassExps : OptionalNote → List Exp
-bassExps b = given (hasBass b) (SlashBass (bassNote b)) []
+bassExps b = given (isSome b) (SlashBass (noteIn b)) []
 
 -- the tokens of the bass at q, and End at e
 abbrev closing : OptionalNote → ℕ → ℕ → List Token

@@ -16,7 +16,7 @@ use Rattle.chord.specs.declared.note.OptionalNote.the-variants.{None, Some}
 use Rattle.chord.specs.declared.note.OptionalNote.{OptionalNote}
 use Rattle.chord.specs.declared.note.RootModifier.the-variants.{Natural, Sharp, Flat}
 use Rattle.chord.specs.declared.note.RootModifier.{RootModifier}
-use Rattle.house.specs.House.{Kind}
+use Rattle.house.specs.declared.kind.Kind.{Kind}
 use Rattle.utf8.proofs.Laws.{charOf-encode, low-scalar}
 use Rattle.utf8.specs.Utf8.{afterChar, charOf, encode, wellFormed, wellFrom}
 use Rattle.utf8.specs.declared.Found.the-variants.{Char}

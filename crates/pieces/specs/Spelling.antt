@@ -3,14 +3,17 @@
 use mathlib.Core.Bool.{cond}
 use mathlib.Core.List.{List, [], _∷_, _++_}
 use Prim.Native.Nat.{ℕ}
+use Rattle.chord.specs.Chord.{Four}
 use Rattle.chord.specs.Interval.{Set}
 use Rattle.chord.specs.declared.note.Note.{Note}
 use Rattle.chord.specs.declared.note.NoteLiteral.the-variants.{C, D, E, F, G, A, B}
 use Rattle.chord.specs.declared.note.NoteLiteral.{NoteLiteral}
+use Rattle.chord.specs.declared.note.OptionalNote.the-variants.{None, Some}
 use Rattle.chord.specs.declared.note.OptionalNote.{OptionalNote}
 use Rattle.chord.specs.declared.note.RootModifier.the-variants.{Natural, Sharp, Flat}
 use Rattle.chord.specs.declared.note.RootModifier.{RootModifier}
-use Rattle.house.specs.House.{Kind, Part, part, bassNote, parts}
+use Rattle.house.specs.House.{Part, part, kindIn, noteIn, parts}
+use Rattle.house.specs.declared.kind.Kind.{Kind}
 use Rattle.lexer.specs.Text.{ascii}
 
 abbrev pub letterText : NoteLiteral → List ℕ
@@ -58,7 +61,7 @@ texts bass =
     ∷ ascii ",add#11"
     ∷ ascii ",addb13"
     ∷ ascii ",add13"
-    ∷ (ascii "/" ++ noteText (bassNote bass))
+    ∷ (ascii "/" ++ noteText (noteIn bass))
     ∷ []
 
 -- the texts of those parts whose condition holds
@@ -70,3 +73,11 @@ written (part c e ∷ ps) (t ∷ ts) = cond c t [] ++ written ps ts
 -- "Written in order: root letter, `#` or `b`; .." (The texts do not depend on the places that the expressions carry.)
 abbrev pub spell : Note → OptionalNote → Set → Kind → List ℕ
 spell root bass n k = noteText root ++ written (parts (λ i. 0) bass n k) (texts bass)
+
+-- "its house spelling is what the rules under that heading make of these four"; a record without a root has none
+abbrev pub houseBy : OptionalNote → Four → List ℕ
+houseBy (Some r) f = spell r (f .bass) (f .normalized) (kindIn (f .normalized) (f .display))
+houseBy None f = []
+
+abbrev pub house : Four → List ℕ
+house f = houseBy (f .root) f

@@ -1,6 +1,7 @@
 -- Reading a card: the five questions of document 01, in their order, over the definitions of the layers.
 use mathlib.Core.Bool.{cond}
 use mathlib.Core.List.{List, [], _∷_}
+use mathlib.Core.Path.{_≡_}
 use Prim.Native.Nat.{ℕ, _/_}
 use lib.Dec.{ltb}
 use lib.ListN.{length}
@@ -74,3 +75,9 @@ readOf room text =
     (cond (ltb 256 (length text)) (refused LongText)
     (cond (wellFormed text) (parsed (preProcess (tokensOf text)))
     (refused NotUtf8)))
+
+-- "A text is accepted when each question put to a card gets yes, given an error list that is long enough. Its four are the root, slash bass or
+-- none, normalized set and display list that the rules below give it"
+pub record IsAccepted (t : List ℕ) (f : Four) : Type 0 where
+  pub answer : readOf 1028 t .answer ≡ Accepted
+  pub four : readOf 1028 t .four ≡ f

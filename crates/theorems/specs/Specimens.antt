@@ -1,4 +1,4 @@
--- The card specimens of document 01 that have a star: one table of what is read, and one theorem for all of it; and the starred spellings.
+-- The card specimens of document 01 that have a star: one table of what is read and spelled, and one theorem for all of it.
 use mathlib.Core.Bool.{Bool, cond}
 use mathlib.Core.List.{List, [], _∷_, _++_, map}
 use mathlib.Core.Path.{_≡_, refl}
@@ -13,22 +13,26 @@ use Rattle.lexer.specs.Lexer.{elem, headOf, isDigit, isLetter, lex, signOf}
 use Rattle.lexer.specs.Text.{ascii}
 use Rattle.lexer.specs.Words.{longestOf, words}
 use Rattle.parser.specs.Parser.{lastSix, walk}
+use Rattle.pieces.specs.Spelling.{house}
 use Rattle.reader.specs.Reader.{Outcome, numberOf, readOf}
 use Rattle.token.specs.Token.{typeOf}
 use Rattle.utf8.specs.Utf8.{bits, charOf, encode, isScalar, wellFrom}
-use Rattle.theorems.specs.Canonical.{house}
 use Rattle.validator.specs.Validator.{allFrom, countOf, extensionFault, firstFrom, firstWrong, lastBelow, semitoneErrors, validationOf}
 
--- a card, the answer's number, the root's number (letter times three, and 1 for a sharp, 2 for a flat; 21 for none), and the members of N
--- or the errors
+-- a card, the answer's number, the root's number (letter times three, and 1 for a sharp, 2 for a flat; 21 for none), the members of N or the
+-- errors, and the house spelling where the paper has it
 pub record Specimen : Type 0 where
   pub card : List ℕ
   pub number : ℕ
   pub root : ℕ
   pub list : List ℕ
+  pub spelled : List (List ℕ)
 
 abbrev card : List ℕ → ℕ → ℕ → List ℕ → Specimen
-card t n r l = record { card = t; number = n; root = r; list = l }
+card t n r l = record { card = t; number = n; root = r; list = l; spelled = [] }
+
+abbrev spelled : List ℕ → ℕ → ℕ → List ℕ → List ℕ → Specimen
+spelled t n r l s = record { card = t; number = n; root = r; list = l; spelled = s ∷ [] }
 
 abbrev rootNumber : OptionalNote → ℕ
 rootNumber (Some n) = noteNumber n
@@ -39,21 +43,32 @@ abbrev membersFrom : ℕ → ℕ → Set → List ℕ
 membersFrom zero i s = []
 membersFrom (suc n) i s = cond (s i) (i ∷ membersFrom n (suc i) s) (membersFrom n (suc i) s)
 
-abbrev specimenOf : List ℕ → Outcome → Specimen
-specimenOf t o = card t (numberOf (o .answer)) (rootNumber (o .four .root)) (o .errs ++ membersFrom 23 0 (o .four .normalized))
+-- a spelling in place of each that is said
+abbrev spelledAs : List ℕ → List (List ℕ) → List (List ℕ)
+spelledAs t said = map (λ (s : List ℕ). t) said
 
-abbrev answer : List ℕ → Specimen
-answer t = specimenOf t (readOf 1028 t)
+abbrev specimenOf : Specimen → Outcome → Specimen
+specimenOf s o =
+    record {
+      card = s .card;
+      number = numberOf (o .answer);
+      root = rootNumber (o .four .root);
+      list = o .errs ++ membersFrom 23 0 (o .four .normalized);
+      spelled = spelledAs (house (o .four)) (s .spelled);
+    }
+
+abbrev answer : Specimen → Specimen
+answer s = specimenOf s (readOf 1028 (s .card))
 
 abbrev pub specimens : List Specimen
 specimens =
-    card (ascii "C6/9") 0 0 (0 ∷ 4 ∷ 8 ∷ 11 ∷ 17 ∷ [])
-    ∷ card (ascii "C69") 0 0 (0 ∷ 4 ∷ 8 ∷ 11 ∷ 17 ∷ [])
+    spelled (ascii "C6/9") 0 0 (0 ∷ 4 ∷ 8 ∷ 11 ∷ 17 ∷ []) (ascii "C,add6,add9")
+    ∷ spelled (ascii "C69") 0 0 (0 ∷ 4 ∷ 8 ∷ 11 ∷ 17 ∷ []) (ascii "C,add6,add9")
     ∷ card (ascii "C11") 0 0 (0 ∷ 5 ∷ 8 ∷ 13 ∷ 17 ∷ [])
     ∷ card (ascii "Cb5") 0 2 (0 ∷ 8 ∷ [])
     ∷ card (ascii "C,b5") 0 0 (0 ∷ 4 ∷ 7 ∷ [])
     ∷ card (ascii "C7dim") 0 0 (0 ∷ 3 ∷ 7 ∷ 12 ∷ [])
-    ∷ card (ascii "C(omit3,)5") 0 0 (0 ∷ [])
+    ∷ spelled (ascii "C(omit3,)5") 0 0 (0 ∷ []) (ascii "C,omit3,omit5")
     ∷ card [] 4 21 (9 ∷ 0 ∷ 0 ∷ 0 ∷ [])
     ∷ card (ascii "C)") 4 21 (15 ∷ 2 ∷ 0 ∷ 0 ∷ [])
     ∷ card (ascii "C((") 4 21 (17 ∷ 2 ∷ 0 ∷ 0 ∷ 16 ∷ 3 ∷ 0 ∷ 0 ∷ [])
@@ -62,14 +77,7 @@ specimens =
     ∷ card (ascii "C7Maj7") 5 21 (10 ∷ 13 ∷ 14 ∷ 0 ∷ [])
     ∷ []
 
--- each is read as the paper says
-pub read-as-said : map (λ (s : Specimen). answer (s .card)) specimens ≡ specimens
+-- each is read and spelled as the paper says
+pub read-as-said : map answer specimens ≡ specimens
 unfolding elem headOf isDigit isLetter lex signOf longestOf words concat count foldOn isMaj join lastSix walk typeOf bits charOf encode isScalar wellFrom readOf displayOf order insert remove allFrom countOf extensionFault firstFrom firstWrong lastBelow semitoneErrors validationOf
 read-as-said = refl
-
--- the starred spellings
-pub spelled-as-said : (house (readOf 1028 (ascii "C6/9") .four) ≡ ascii "C,add6,add9")
-    × (house (readOf 1028 (ascii "C69") .four) ≡ ascii "C,add6,add9")
-    × (house (readOf 1028 (ascii "C(omit3,)5") .four) ≡ ascii "C,omit3,omit5")
-unfolding elem headOf isDigit isLetter lex signOf longestOf words concat count foldOn isMaj join lastSix walk typeOf bits charOf encode isScalar wellFrom readOf displayOf order insert remove allFrom countOf extensionFault firstFrom firstWrong lastBelow semitoneErrors validationOf
-spelled-as-said = (refl, refl, refl)

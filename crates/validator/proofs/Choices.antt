@@ -1,12 +1,12 @@
 -- What was found or else something, and a number at which a `match` has no arm.
 -- Assumes nothing.
 use mathlib.Core.Bool.{Bool, true, false, true≢false, false≢true, _||_}
-use mathlib.Core.List.{List, [], _∷_}
+use mathlib.Core.List.{List, [], _∷_, _++_}
 use mathlib.Core.Path.{_≡_, refl, sym, ap, _∙_}
 use Prim.Native.Nat.{ℕ}
 use borrow.Author.Tests.{ne-eqb}
 use Rattle.validator.specs.State.{isSome, errorOf}
-use Rattle.validator.specs.Validator.{among, orElse}
+use Rattle.validator.specs.Validator.{among, isNil, orElse}
 use Rattle.validator.specs.declared.fault.Fault.the-variants as fault
 use Rattle.validator.specs.declared.fault.Fault.{Fault}
 
@@ -19,6 +19,15 @@ found (fault.Some x) r e t = ap (λ (q : List ℕ). orElse q r) e
 pub passed : (f : Fault) {l : List ℕ} (r : List ℕ) → errorOf f ≡ l → isSome f ≡ false → orElse l r ≡ r
 passed fault.None r e t = sym (ap (λ (q : List ℕ). orElse q r) e)
 passed (fault.Some x) r e t = absurd (true≢false t)
+
+-- the same, where all errors are joined: is there none?
+pub some-found : (f : Fault) {l : List ℕ} (r : List ℕ) → errorOf f ≡ l → isSome f ≡ true → isNil (l ++ r) ≡ false
+some-found fault.None r e t = absurd (false≢true t)
+some-found (fault.Some x) r e t = ap (λ (q : List ℕ). isNil (q ++ r)) (sym e)
+
+pub none-found : (f : Fault) {l : List ℕ} (r : List ℕ) → errorOf f ≡ l → isSome f ≡ false → isNil (l ++ r) ≡ isNil r
+none-found fault.None r e t = sym (ap (λ (q : List ℕ). isNil (q ++ r)) e)
+none-found (fault.Some x) r e t = absurd (true≢false t)
 
 -- what the last arm of a `match` is told: n is none of the numbers of the arms before
 abbrev pub Away : ℕ → Type 0 → List ℕ → Type 0

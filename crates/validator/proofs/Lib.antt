@@ -1,5 +1,5 @@
 -- What several proofs use, and closed cases.
-mod Choices
+pub mod Choices
 mod Walks
 mod Arrays
 mod Lists

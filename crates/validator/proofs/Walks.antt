@@ -64,6 +64,20 @@ first-end f k i h =
     let e : k - i ≡ 0 = omega arith in
     ap (λ (n : ℕ). firstFrom f n i) e
 
+-- all errors from i on, below k
+pub all-next : (f : ℕ → List ℕ) (k i : ℕ) → i < k → allFrom f (k - i) i ≡ f i ++ allFrom f (k - (i + 1)) (i + 1)
+unfolding allFrom
+all-next f k i h =
+    let e : k - i ≡ suc (k - (i + 1)) = omega arith in
+    let s : suc i ≡ i + 1 = omega arith in
+    ap (λ (n : ℕ). allFrom f n i) e ∙ ap (λ (j : ℕ). f i ++ allFrom f (k - (i + 1)) j) s
+
+pub all-end : (f : ℕ → List ℕ) (k i : ℕ) → k ≤ i → allFrom f (k - i) i ≡ []
+unfolding allFrom
+all-end f k i h =
+    let e : k - i ≡ 0 = omega arith in
+    ap (λ (n : ℕ). allFrom f n i) e
+
 -- all errors below i + 1 are those below i, and those of i
 all-more : (f : ℕ → List ℕ) (n i : ℕ) → allFrom f (suc n) i ≡ allFrom f n i ++ f (i + n)
 unfolding allFrom

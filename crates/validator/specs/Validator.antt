@@ -1,5 +1,5 @@
 -- Validation (validator.rs): "Validation runs all three checks and joins their errors." An error is its four numbers.
-use mathlib.Core.Bool.{Bool, false, cond, not, _&&_, _||_}
+use mathlib.Core.Bool.{Bool, true, false, cond, not, _&&_, _||_}
 use mathlib.Core.List.{List, [], _∷_, _++_}
 use Prim.Native.Nat.{ℕ, zero, suc, _+_, _%_}
 use lib.Dec.{eqb, ltb}
@@ -161,6 +161,15 @@ neighboursAt last c = three (last c) (last ((c + 1) % 12)) (last ((c + 2) % 12))
 
 unfoldable pub semitoneErrors : Set → List ℕ
 semitoneErrors s = allFrom (neighboursAt (lastBelow 23 s)) 12 0
+
+-- is nothing in the list?
+abbrev pub isNil : List ℕ → Bool
+isNil [] = true
+isNil (x ∷ l) = false
+
+-- the checks that look at the set alone find nothing
+unfoldable pub setValid : Set → Bool
+setValid s = isNil (allFrom (conflictAt s) 8 0) && isNil (semitoneErrors s)
 
 -- `validate`: the errors of the expressions l and of the set s that they make
 unfoldable pub validationOf : List Exp → Set → List ℕ

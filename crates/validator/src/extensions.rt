@@ -1,4 +1,5 @@
 // The check of the extensions, and of intervals that exclude each other.
+ghost use mathlib.Core.Bool.{not};
 ghost use mathlib.Core.List.{map};
 ghost use mathlib.Core.Path.{_≡_};
 ghost use Prim.Native.Nat.{_+_, _*_, _≤_, _<_};
@@ -7,7 +8,7 @@ ghost use Rattle.chord.specs.Chord.{members};
 ghost use Rattle.chord.specs.Interval.{empty, semitones};
 ghost use Rattle.expression.specs.Expression.{expOf};
 ghost use Rattle.validator.specs.State.{errorOf, Wrote};
-ghost use Rattle.validator.specs.Validator.{among, allFrom, badExtensions, faultAt, faultOf, seeing, extensionFault, conflictAt, extensionErrors};
+ghost use Rattle.validator.specs.Validator.{among, allFrom, badExtensions, faultAt, faultOf, seeing, extensionFault, conflictAt, extensionErrors, isNil};
 use crate::fault::Fault;
 use crate::fault::fault_if;
 use crate::fault::push;
@@ -143,6 +144,21 @@ fn push_conflicts(set: IntervalSet, errs: &mut [u16], n: usize) -> usize
         i += 1;
     }
     m
+}
+
+// Do two members exclude each other?
+pub(crate) fn has_conflict(set: IntervalSet) -> bool
+    ensures { λ r. ⌜ r ≡ not (isNil (allFrom (conflictAt (members set)) 8 0)) ⌝ }
+{
+    let mut i = 0;
+    while i < 8 {
+        let f = conflict_at(set, i);
+        if f.is_some() {
+            return true;
+        }
+        i += 1;
+    }
+    false
 }
 
 pub(crate) fn validate_extensions(

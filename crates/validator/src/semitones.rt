@@ -1,13 +1,13 @@
 // The check of three neighbours among the twelve classes of semitones, going round from 11 to 0.
 ghost use mathlib.Core.Path.{_≡_};
-ghost use mathlib.Core.Bool.{cond, _&&_};
+ghost use mathlib.Core.Bool.{cond, not, _&&_};
 ghost use Prim.Native.Nat.{ℕ, _+_, _*_, _%_, _≤_, _<_};
 ghost use lib.Dec.{eqb, ltb};
 ghost use lib.ListN.{length};
 ghost use Rattle.chord.specs.Chord.{members};
 ghost use Rattle.chord.specs.Interval.{semitones};
 ghost use Rattle.validator.specs.State.{errorOf, lastsOf, Wrote};
-ghost use Rattle.validator.specs.Validator.{lastBelow, three, neighboursAt, semitoneErrors};
+ghost use Rattle.validator.specs.Validator.{lastBelow, three, neighboursAt, isNil, semitoneErrors};
 use crate::fault::Fault;
 use crate::fault::fault_if;
 use crate::fault::push;
@@ -85,6 +85,22 @@ fn neighbours_at(lasts: Lasts, c: usize) -> Fault
     let d = (c + 1) % 12;
     let e = (c + 2) % 12;
     fault_of_three(lasts.of[c], lasts.of[d], lasts.of[e])
+}
+
+// Are there three neighbours?
+pub(crate) fn has_neighbours(set: IntervalSet) -> bool
+    ensures { λ r. ⌜ r ≡ not (isNil (semitoneErrors (members set))) ⌝ }
+{
+    let lasts = last_of_class(set);
+    let mut k = 0;
+    while k < 12 {
+        let f = neighbours_at(lasts, k);
+        if f.is_some() {
+            return true;
+        }
+        k += 1;
+    }
+    false
 }
 
 pub(crate) fn validate_semitones(set: IntervalSet, errs: &mut [u16], n: usize) -> usize

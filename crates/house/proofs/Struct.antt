@@ -1,5 +1,6 @@
--- The structural clauses of a normalized set N and a K: what every evaluation of allowed expressions gives, before its set is validated; and
--- which expressions are allowed.
+-- The clauses of a normalized set N and a K, one by one; and which expressions are allowed: what the invariants of the evaluation are proved
+-- of, and what the round trip takes.
+-- Assumes nothing.
 use mathlib.Core.Bool.{Bool, true, false, not, _&&_}
 use mathlib.Core.List.{List, [], _∷_}
 use lib.Dec.{T, eqb, ltb}
@@ -7,13 +8,10 @@ use Rattle.chord.specs.Interval.{Set, unison, minorSecond, minorThird, majorThi
 use Rattle.expression.specs.declared.expression.Exp.the-variants.{Power, Bass, Maj, Maj7, Minor, HalfDim, Dim, Dim7, Alt, Aug, Sus, Extension, Add, Omit, SlashBass}
 use Rattle.expression.specs.declared.expression.Exp.{Exp}
 use Rattle.validator.specs.Validator.{addTargets, among, omitTargets}
-use Rattle.house.specs.House.{Kind, isFlat2, isSecond, isSharp4, isSus}
-
--- if a then b
-infixr 20 _⇒_
-abbrev pub _⇒_ : Bool → Bool → Bool
-true ⇒ b = b
-false ⇒ b = true
+use Rattle.house.specs.House.{isFlat2, isSecond, isSharp4, isSus}
+use Rattle.house.specs.declared.kind.Kind.{Kind}
+use Rattle.house.specs.Question.{_⇒_, all, clauses}
+use Rattle.house.proofs.Bools.{and-left, and-right}
 
 pub record Struct (n : Set) (k : Kind) : Type 0 where
   -- S1: 1 is a member
@@ -42,6 +40,45 @@ pub record Struct (n : Set) (k : Kind) : Type 0 where
   pub s11a : T (isFlat2 k ⇒ n flatNinth)
   pub s11b : T (isSecond k ⇒ n ninth)
   pub s11c : T (isSharp4 k ⇒ n sharpEleventh)
+
+-- all of a list pass exactly when each passes
+abbrev Each : List Bool → Type 0
+Each [] = Unit
+Each (b ∷ l) = T b × Each l
+
+each : (l : List Bool) → T (all l) → Each l
+each [] t = tt
+each (b ∷ l) t = (and-left b (all l) t, each l (and-right b (all l) t))
+
+join : (l : List Bool) → Each l → T (all l)
+join [] t = tt
+join (true ∷ l) t = join l (t .1)
+join (false ∷ l) t = absurd (t .0)
+
+-- the clauses one by one, and together
+pub apart : (n : Set) (k : Kind) → T (all (clauses n k)) → Struct n k
+apart n k t =
+    let e = each (clauses n k) t in
+    record {
+      s1 = e .0;
+      s2a = e .1 .0;
+      s2b = e .1 .1 .0;
+      s2c = e .1 .1 .1 .0;
+      s3 = e .1 .1 .1 .1 .0;
+      s4 = e .1 .1 .1 .1 .1 .0;
+      s5 = e .1 .1 .1 .1 .1 .1 .0;
+      s6 = e .1 .1 .1 .1 .1 .1 .1 .0;
+      s7 = e .1 .1 .1 .1 .1 .1 .1 .1 .0;
+      s8 = e .1 .1 .1 .1 .1 .1 .1 .1 .1 .0;
+      s9 = e .1 .1 .1 .1 .1 .1 .1 .1 .1 .1 .0;
+      s10 = e .1 .1 .1 .1 .1 .1 .1 .1 .1 .1 .1 .0;
+      s11a = e .1 .1 .1 .1 .1 .1 .1 .1 .1 .1 .1 .1 .0;
+      s11b = e .1 .1 .1 .1 .1 .1 .1 .1 .1 .1 .1 .1 .1 .0;
+      s11c = e .1 .1 .1 .1 .1 .1 .1 .1 .1 .1 .1 .1 .1 .1 .0;
+    }
+
+pub together : (n : Set) (k : Kind) → Struct n k → T (all (clauses n k))
+together n k c = join (clauses n k) (c .s1, (c .s2a, (c .s2b, (c .s2c, (c .s3, (c .s4, (c .s5, (c .s6, (c .s7, (c .s8, (c .s9, (c .s10, (c .s11a, (c .s11b, (c .s11c, tt)))))))))))))))
 
 -- an expression as the parser makes it and validation allows it: its interval is below 23, no extension is #4, and an Add or an Omit names
 -- what it may

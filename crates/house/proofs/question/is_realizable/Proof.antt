@@ -1,0 +1,26 @@
+-- By whether there is a root.
+-- Assumes nothing.
+use borrow.Author.Needs.{needs}
+use borrow.Author.Tests.{not-false, not-true}
+use Rattle.house.proofs.question.is_realizable.Statement.{statement}
+use Rattle.house.proofs.question.is_realizable.Tie as tie
+
+is-some-requires : tie.Need-is-some-requires
+is-some-requires c κs = search needs
+
+returns : tie.Need-returns
+returns c = rw (← c .before .is-some .ensures, not-true (c .before .is-some .result) (c .if1 .taken))
+
+kind-in-requires : tie.Need-kind-in-requires
+kind-in-requires c κs = search needs
+
+is-realizable-by-requires : tie.Need-is-realizable-by-requires
+is-realizable-by-requires c κs = search needs
+
+returns-2 : tie.Need-returns-2
+returns-2 c =
+    rw (c .is-realizable-by .ensures, c .before .kind-in .ensures, ← c .before .before .before .is-some .ensures, not-false (c .before .before .before .is-some .result) (c .before .before .if1 .left))
+
+pub is-realizable-spec : {M : Type 1} → statement M
+is-realizable-spec =
+    tie.close (tie.spec is-some-requires returns kind-in-requires is-realizable-by-requires returns-2)
