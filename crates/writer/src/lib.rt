@@ -1,0 +1,63 @@
+// Writing a record: the two questions, in the paper's order, and its house spelling.
+ghost use mathlib.Core.Bool.{true};
+ghost use mathlib.Core.List.{List};
+ghost use mathlib.Core.Logic.{_↔_};
+ghost use mathlib.Core.Path.{_≡_};
+ghost use Prim.Native.Nat.{ℕ, _≤_};
+ghost use lib.ListN.{length};
+ghost use Rattle.chord.specs.Chord.{fourOf};
+ghost use Rattle.house.specs.Question.{realizable};
+ghost use Rattle.pieces.specs.Spelling.{house};
+ghost use Rattle.reader.specs.Reader.{IsAccepted};
+ghost use Rattle.writer.specs.State.{Gave, Put};
+ghost use Rattle.writer.specs.Writer.{Decided, writeOf};
+use chord::Chord;
+use chord::note::OptionalNote;
+use house::kind::kind_in;
+use house::question::is_realizable;
+use spelling::put_spelling;
+
+mod spelling;
+
+// The answer to a record; an accepted one's carries the length of its spelling.
+pub enum Answer {
+    Spelled(usize),
+    ShortBuffer,
+    NoText,
+}
+
+// Has some accepted text exactly the record's four?
+pub fn has_text(chord: Chord) -> bool
+    ensures { λ r. ⌜ (r ≡ realizable (fourOf chord)) × ((r ≡ true) ↔ ((t : List ℕ) × IsAccepted t (fourOf chord))) ⌝ }
+{
+    is_realizable(chord)
+}
+
+// Writes the house spelling of a record that has a root.
+fn spell(chord: Chord, buffer: &mut [u8]) -> usize
+    requires { ⌜ 112 ≤ length (now buffer) ⌝ }
+    ensures { λ r. ⌜ Put 0 r (house (fourOf chord)) (now (buffer .entry)) (now (buffer .exit)) ⌝ }
+{
+    let root = chord.root;
+    let bass = chord.bass;
+    let set = chord.normalized;
+    let list = chord.display;
+    match root {
+        OptionalNote::None => 0,
+        OptionalNote::Some(note) => put_spelling(buffer, note, bass, set, kind_in(set, list)),
+    }
+}
+
+// Writes any record, with any lent buffer. The spelling fills its own bytes, from the first on; all else in the buffer is untouched.
+pub fn write(chord: Chord, buffer: &mut [u8]) -> Answer
+    ensures { λ r. ⌜ Gave (writeOf (length (now (buffer .entry))) (fourOf chord)) r (now (buffer .entry)) (now (buffer .exit)) × Decided (fourOf chord) ⌝ }
+{
+    if buffer.len() < 112 {
+        return Answer::ShortBuffer;
+    }
+    if !has_text(chord) {
+        return Answer::NoText;
+    }
+    let n = spell(chord, buffer);
+    Answer::Spelled(n)
+}
