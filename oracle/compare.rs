@@ -201,9 +201,9 @@ fn main() -> ExitCode {
     let arguments: Vec<&str> = arguments.iter().map(String::as_str).collect();
     let (texts, ours, oracle, listing) = match arguments[..] {
         [texts, ours, oracle] | [texts, ours, oracle, "listing"] => (texts, ours, oracle, true),
-        [texts, ours, oracle, "tokens" | "scan" | "parse"] => (texts, ours, oracle, false),
+        [texts, ours, oracle, "tokens" | "scan" | "parse" | "spelling"] => (texts, ours, oracle, false),
         _ => {
-            eprintln!("usage: compare TEXTS OURS ORACLE [listing | tokens | scan | parse]");
+            eprintln!("usage: compare TEXTS OURS ORACLE [listing | tokens | scan | parse | spelling]");
             return ExitCode::from(2);
         }
     };
