@@ -1,3 +1,4 @@
 pub mod Store
+mod Bits
 mod Same
 pub mod Semitones

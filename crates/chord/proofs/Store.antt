@@ -1,42 +1,69 @@
--- What arrays of bools and of numbers say of the sets and lists that they hold. A store is the set's operation: the element that was stored,
--- or the one that was there.
+-- What a number says of the set that it holds, and an array of the list. The code's operations are the set's, digit by digit.
 -- Assumes nothing.
 use mathlib.Core.Bool.{Bool, true, false, not, _&&_, _||_}
 use mathlib.Core.List.{List, map}
 use mathlib.Core.Path.{_≡_, refl, sym, ap, _∙_}
-use Prim.Native.Nat.{ℕ, zero, suc, _<_, _≤_}
+use Prim.Native.Nat.{ℕ, _*_, _%_, _^_, _<_, _≤_}
+use native.Mathlib.Nat.{zero-div}
 use native.Mathlib.Omega.{arith}
 use lib.Dec.{eqb, ltb}
-use lib.ListN.{length, getD, set, replicate, length-map, length-take, List·getD-eq-default}
-use lib.Seq.{getD-set-same, getD-set-other, getD-take}
-use borrow.Author.Tests.{eqb-true, eqb-false, ltb-true, ltb-false}
-use Rattle.chord.specs.Chord.{listed}
+use lib.Bits.{bitAnd, bitOr, bitXor}
+use lib.ListN.{length, getD, length-map, length-take}
+use lib.Seq.{getD-take}
+use borrow.Author.Tests.{eqb-true, lt-ltb, ltb-true, ltb-false}
+use Rattle.chord.proofs.Bits.{bit-or, bit-power, bit-without, bits-same, power, same-bits}
+use Rattle.chord.specs.Chord.{bit, listed}
 use Rattle.chord.specs.Interval.{Set, insert, remove, replace}
 use Rattle.chord.specs.declared.interval.IntervalList.{IntervalList}
 
-module _ (l : List Bool) (i : ℕ) (h : i < length l) (k : ℕ) where
-  pub insert-at : getD (set l i true) k false ≡ (eqb i k || getD l k false)
-  insert-at = go (eqb i k) refl
+-- the members after the code's operations
+module _ (n i : ℕ) (h : i < 23) (k : ℕ) where
+  pub insert-at : (ltb k 23 && bit (bitOr n ((1 * 2 ^ i) % 2 ^ 32)) k) ≡ (eqb i k || ltb k 23 && bit n k)
+  insert-at = ap (λ (x : ℕ). ltb k 23 && bit (bitOr n x) k) (power i (omega arith)) ∙ ap (λ (b : Bool). ltb k 23 && b) (bit-or n (2 ^ i) k ∙ ap (λ (b : Bool). bit n k || b) (bit-power i k)) ∙ go (ltb k 23) (eqb i k) refl refl (bit n k)
     where
-      go : (t : Bool) → eqb i k ≡ t → getD (set l i true) k false ≡ (t || getD l k false)
-      go true e = ap (λ (m : ℕ). getD (set l i true) m false) (sym (eqb-true i k e)) ∙ getD-set-same l i true false h
-      go false e = getD-set-other l i k true false (λ p. eqb-false i k e (sym p))
+      go : (t e : Bool) → ltb k 23 ≡ t → eqb i k ≡ e → (b : Bool) → (t && (b || e)) ≡ (e || t && b)
+      go true true p q true = refl
+      go true true p q false = refl
+      go true false p q true = refl
+      go true false p q false = refl
+      go false true p q b =
+          let g : 23 ≤ k = ltb-false k 23 p in
+          let f : i ≡ k = eqb-true i k q in
+          absurd (omega arith)
+      go false false p q b = refl
 
-  pub remove-at : getD (set l i false) k false ≡ (not (eqb i k) && getD l k false)
-  remove-at = go (eqb i k) refl
+  pub remove-at : (ltb k 23 && bit (bitXor n (bitAnd n ((1 * 2 ^ i) % 2 ^ 32))) k) ≡ (not (eqb i k) && (ltb k 23 && bit n k))
+  remove-at = ap (λ (x : ℕ). ltb k 23 && bit (bitXor n (bitAnd n x)) k) (power i (omega arith)) ∙ ap (λ (b : Bool). ltb k 23 && b) (bit-without n (2 ^ i) k ∙ ap (λ (b : Bool). not b && bit n k) (bit-power i k)) ∙ go (ltb k 23) (eqb i k) (bit n k)
     where
-      go : (t : Bool) → eqb i k ≡ t → getD (set l i false) k false ≡ (not t && getD l k false)
-      go true e = ap (λ (m : ℕ). getD (set l i false) m false) (sym (eqb-true i k e)) ∙ getD-set-same l i false false h
-      go false e = getD-set-other l i k false false (λ p. eqb-false i k e (sym p))
+      go : (t e b : Bool) → (t && (not e && b)) ≡ (not e && (t && b))
+      go true e b = refl
+      go false true b = refl
+      go false false b = refl
+
+-- the number 0 has no members
+pub none-at : (k : ℕ) → (ltb k 23 && bit 0 k) ≡ false
+unfolding bit
+none-at k = ap (λ (x : ℕ). ltb k 23 && eqb (x % 2) 1) (zero-div (2 ^ k)) ∙ go (ltb k 23)
+  where
+    go : (t : Bool) → (t && false) ≡ false
+    go true = refl
+    go false = refl
+
+-- the same members are the same 23 low digits
+module _ (a b : ℕ) where
+  pub alike : a % 2 ^ 23 ≡ b % 2 ^ 23 → (k : ℕ) → (ltb k 23 && bit a k) ≡ (ltb k 23 && bit b k)
+  alike e k = go (ltb k 23) refl
+    where
+      go : (t : Bool) → ltb k 23 ≡ t → (t && bit a k) ≡ (t && bit b k)
+      go true p = bits-same a b 23 e k (ltb-true k 23 p)
+      go false p = refl
+
+  pub alike-back : ((k : ℕ) → (ltb k 23 && bit a k) ≡ (ltb k 23 && bit b k)) → a % 2 ^ 23 ≡ b % 2 ^ 23
+  alike-back f = same-bits a b 23 (λ k h. sym (ap (λ (t : Bool). t && bit a k) (lt-ltb k 23 h)) ∙ f k ∙ ap (λ (t : Bool). t && bit b k) (lt-ltb k 23 h))
 
 -- the length that owning an array field tells, said of the field
 pub sized {ℓ} : {A : Type ℓ} (l : List A) (n : ℕ) → length (map (λ (v : A). v) l) ≡ n → length l ≡ n
 sized l n e = sym (length-map l (λ v. v)) ∙ e
-
-pub none-at : (n k : ℕ) → getD (replicate n false) k false ≡ false
-none-at zero k = refl
-none-at (suc n) zero = refl
-none-at (suc n) (suc k) = none-at n k
 
 -- a set in which `target` is replaced: with it as a member, and without
 module _ (s : Set) (target dest : ℕ) where
@@ -57,16 +84,6 @@ module _ (s : Set) (target dest : ℕ) where
       go false true p = ap s (sym (eqb-true target k p)) ∙ e
       go true false p = rw e
       go false false p = refl
-
--- two arrays that agree below n, where both end, have the same members
-pub same-below : (l m : List Bool) (n : ℕ) → length l ≡ n → length m ≡ n → ((k : ℕ) → k < n → getD l k false ≡ getD m k false) → (k : ℕ) → getD l k false ≡ getD m k false
-same-below l m n p q f k = go (ltb k n) refl
-  where
-    go : (t : Bool) → ltb k n ≡ t → getD l k false ≡ getD m k false
-    go true e = f k (ltb-true k n e)
-    go false e =
-        let h : n ≤ k = ltb-false k n e in
-        List·getD-eq-default l false (omega arith) ∙ sym (List·getD-eq-default m false (omega arith))
 
 -- the numbers that a list takes stand in its array
 pub listed-at : (l : IntervalList) (k : ℕ) → k < length (listed l) → getD (listed l) k 0 ≡ getD (l .numbers) k 0

@@ -1,8 +1,9 @@
 -- What a chord record stands for: its four.
-use mathlib.Core.Bool.{false}
+use mathlib.Core.Bool.{Bool, _&&_}
 use mathlib.Core.List.{List, []}
-use Prim.Native.Nat.{ℕ}
-use lib.ListN.{getD, take}
+use Prim.Native.Nat.{ℕ, _/_, _%_, _^_}
+use lib.Dec.{eqb, ltb}
+use lib.ListN.{take}
 use Rattle.chord.specs.Interval.{Set, empty}
 use Rattle.chord.specs.declared.Chord.{Chord}
 use Rattle.chord.specs.declared.interval.IntervalList.{IntervalList}
@@ -10,9 +11,13 @@ use Rattle.chord.specs.declared.interval.IntervalSet.{IntervalSet}
 use Rattle.chord.specs.declared.note.OptionalNote.the-variants.{None}
 use Rattle.chord.specs.declared.note.OptionalNote.{OptionalNote}
 
--- the members of the code's set
+-- is the binary digit of n that counts 2 ^ k a 1?
+unfoldable pub bit : ℕ → ℕ → Bool
+bit n k = eqb (n / 2 ^ k % 2) 1
+
+-- the members of the code's set: those of the 23 whose digit is a 1
 unfoldable pub members : IntervalSet → Set
-members s k = getD (s .has) k false
+members s k = ltb k 23 && bit (s .bits) k
 
 -- the numbers of the code's list
 unfoldable pub listed : IntervalList → List ℕ

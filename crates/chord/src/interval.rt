@@ -90,19 +90,9 @@ pub fn st(interval: u8) -> u8
     SEMITONES[i]
 }
 
-// Are both true or both false?
-fn alike(a: bool, b: bool) -> bool
-    ensures { λ r. ⌜ ((r ≡ true) ↔ (a ≡ b)) ⌝ }
-{
-    if a {
-        return b;
-    }
-    !b
-}
-
-// Which of the 23 intervals are members.
+// Which of the 23 intervals are members: the binary digits of a number, the lowest first. The digits from 23 on say nothing.
 pub struct IntervalSet {
-    pub has: [bool; 23],
+    pub bits: u32,
 }
 
 impl IntervalSet {
@@ -110,35 +100,34 @@ impl IntervalSet {
     pub fn new() -> IntervalSet
         ensures { λ r. ⌜ members r ≡ empty ⌝ }
     {
-        IntervalSet { has: [false; 23] }
+        IntervalSet { bits: 0 }
     }
 
     pub fn contains(self, interval: u8) -> bool
         requires { ⌜ interval < 23 ⌝ }
         ensures { λ r. ⌜ r ≡ members self interval ⌝ }
     {
-        let i = interval as usize;
-        self.has[i]
+        (self.bits >> interval) % 2 == 1
     }
 
     pub fn insert(self, interval: u8) -> IntervalSet
         requires { ⌜ interval < 23 ⌝ }
         ensures { λ r. ⌜ members r ≡ insert (members self) interval ⌝ }
     {
-        let i = interval as usize;
-        let mut s = self;
-        s.has[i] = true;
-        s
+        let bits = self.bits;
+        IntervalSet {
+            bits: bits | (1 << interval),
+        }
     }
 
     pub fn remove(self, interval: u8) -> IntervalSet
         requires { ⌜ interval < 23 ⌝ }
         ensures { λ r. ⌜ members r ≡ remove (members self) interval ⌝ }
     {
-        let i = interval as usize;
-        let mut s = self;
-        s.has[i] = false;
-        s
+        let bits = self.bits;
+        IntervalSet {
+            bits: bits ^ (bits & (1 << interval)),
+        }
     }
 
     // Removes one interval and inserts another, whether or not the first was a member.
@@ -164,14 +153,7 @@ impl IntervalSet {
     pub(crate) fn same(self, other: IntervalSet) -> bool
         ensures { λ r. ⌜ ((r ≡ true) ↔ (members self ≡ members other)) ⌝ }
     {
-        let mut i = 0;
-        while i < 23 {
-            if !alike(self.has[i], other.has[i]) {
-                return false;
-            }
-            i += 1;
-        }
-        true
+        self.bits % 0x80_0000 == other.bits % 0x80_0000
     }
 }
 

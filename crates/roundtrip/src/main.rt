@@ -25,19 +25,6 @@ fn more(n: u64) -> u64 {
     n
 }
 
-// The set of the intervals whose bits are set.
-fn set_of(bits: u32) -> IntervalSet {
-    let mut s = IntervalSet::new();
-    let mut b = bits;
-    let mut i = 0;
-    while i < 23 {
-        s.has[i] = b % 2 == 1;
-        b = b / 2;
-        i += 1;
-    }
-    s
-}
-
 // The note of a number below 21; none of 21.
 fn note_of(number: u8) -> OptionalNote {
     if number < 21 {
@@ -200,7 +187,7 @@ fn every_set(buffer: &mut [u8], errs: &mut [u16]) -> Counts {
     };
     let mut bits = 0;
     while bits < 8388608 {
-        c = with_lists(c, set_of(bits), buffer, errs);
+        c = with_lists(c, IntervalSet { bits }, buffer, errs);
         bits += 1;
     }
     c

@@ -1,14 +1,13 @@
 -- The three answers: what the definition gives by the two questions, and that the code gave it.
 -- Assumes nothing.
-use mathlib.Core.Bool.{Bool, true, false, not, cond}
+use mathlib.Core.Bool.{Bool, true, false, not, cond, _&&_}
 use mathlib.Core.List.{List, []}
 use mathlib.Core.Path.{_≡_, refl, sym, ap, _∙_, subst}
 use Prim.Native.Nat.{ℕ, _≤_, _<_}
 use native.Mathlib.Omega.{arith}
-use lib.ListN.{length, List·getD-eq-default}
+use lib.ListN.{length}
 use borrow.Author.Tests.{lt-ltb, le-ltb}
-use Rattle.chord.specs.Chord as chord
-use Rattle.chord.specs.Chord.{Four, fourOf, members}
+use Rattle.chord.specs.Chord.{Four, bit, fourOf, members}
 use Rattle.chord.specs.declared.Chord.{Chord}
 use Rattle.chord.specs.declared.interval.IntervalSet.{IntervalSet}
 use Rattle.chord.specs.declared.note.OptionalNote.the-variants.{None, Some}
@@ -24,13 +23,13 @@ use Rattle.writer.specs.Writer.{Decided, Outcome, refused, spelled, writ
 use Rattle.writer.specs.declared.Answer.the-variants.{Spelled, ShortBuffer, NoText}
 use Rattle.writer.specs.declared.Answer.{Answer}
 
--- a record's set has 23 members at most, so the test decides the question
-low : (s : IntervalSet) → length (s .has) ≡ 23 → Low (members s)
-unfolding chord.members
-low s e j h = List·getD-eq-default (s .has) false {n = j} (omega (arith, e, h))
+-- a record's set has no member outside the table, so the test decides the question
+low : (s : IntervalSet) → Low (members s)
+unfolding members
+low s j h = ap (λ (t : Bool). t && bit (s .bits) j) (le-ltb j 23 h)
 
-pub decided : (c : Chord) → length (c .normalized .has) ≡ 23 → Decided (fourOf c)
-decided c e = some-text (fourOf c) (low (c .normalized) e)
+pub decided : (c : Chord) → Decided (fourOf c)
+decided c = some-text (fourOf c) (low (c .normalized))
 
 -- the house spelling by K
 abbrev pub spellBy : OptionalNote → Kind → Four → List ℕ

@@ -16,9 +16,6 @@ abbrev μ-loop : tie.MeasureT-loop
 loop-holds : tie.Need-loop-holds Inv-loop μ-loop
 loop-holds c = search needs
 
-set-of-requires : tie.Need-set-of-requires Inv-loop μ-loop
-set-of-requires c κs = search needs
-
 with-lists-requires : tie.Need-with-lists-requires Inv-loop μ-loop
 with-lists-requires c κs = search needs
 
@@ -47,7 +44,6 @@ every-set-spec =
     Inv-loop
     μ-loop
     loop-holds
-    set-of-requires
     with-lists-requires
     add-bits
     loop-less

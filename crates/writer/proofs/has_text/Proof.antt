@@ -2,7 +2,6 @@
 -- Assumes nothing.
 use mathlib.Core.Path.{sym, _∙_}
 use borrow.Author.Needs.{needs}
-use Rattle.chord.proofs.Store.{sized}
 use Rattle.writer.proofs.Answers.{decided}
 use Rattle.writer.proofs.has_text.Statement.{statement}
 use Rattle.writer.proofs.has_text.Tie as tie
@@ -14,7 +13,7 @@ returns : tie.Need-returns
 returns c =
     let a = c .before .args .chord in
     let e = c .is-realizable .ensures in
-    let d = decided a (sized (a .normalized .has) 23 (c .before .good .0 .1 .1 .1 .1 .0 .1 .1 .0 .1 .0 .1)) in
+    let d = decided a in
     (e, (λ q. d .0 (sym e ∙ q), λ x. e ∙ d .1 x))
 
 pub has-text-spec : {M : Type 1} → statement M

@@ -1,17 +1,21 @@
--- `contains` reads the element that `members` names.
+-- The shift and the remainder are the digit that `members` names.
 -- Assumes nothing.
-use mathlib.Core.Path.{refl}
+use mathlib.Core.Bool.{Bool, _&&_}
+use mathlib.Core.Path.{sym, ap}
 use borrow.Author.Needs.{needs}
-use Rattle.chord.specs.Chord.{members}
+use borrow.Author.Tests.{lt-ltb}
+use Rattle.chord.specs.Chord.{bit, members}
 use Rattle.chord.proofs.interval.IntervalSet.contains.Statement.{statement}
 use Rattle.chord.proofs.interval.IntervalSet.contains.Tie as tie
 
-element-copy-out-result : tie.Need-element-copy-out-result
-element-copy-out-result c = search needs
+shr-result : tie.Need-shr-result
+shr-result c = search needs
 
 returns : tie.Need-returns
-unfolding members
-returns c = refl
+unfolding members bit
+returns c =
+    let a = c .before .args in
+    sym (ap (λ (t : Bool). t && bit (a .self .bits) (a .interval)) (lt-ltb (a .interval) 23 (c .before .pre)))
 
 pub contains-spec : {M : Type 1} → statement M
-contains-spec = tie.close (tie.spec element-copy-out-result returns)
+contains-spec = tie.close (tie.spec shr-result returns)

@@ -1,13 +1,13 @@
--- No element of an array of `false` is true.
+-- The number 0 has no digit that is a 1.
 -- Assumes nothing.
-use Rattle.chord.specs.Chord.{members}
 use Rattle.chord.proofs.Store.{none-at}
+use Rattle.chord.specs.Chord.{members}
 use Rattle.chord.proofs.interval.IntervalSet.new.Statement.{statement}
 use Rattle.chord.proofs.interval.IntervalSet.new.Tie as tie
 
 returns : tie.Need-returns
 unfolding members
-returns c = λ x k. none-at 23 k x
+returns c = λ x k. none-at k x
 
 pub new-spec : {M : Type 1} → statement M
 new-spec = tie.close (tie.spec returns)
