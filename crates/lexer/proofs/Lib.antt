@@ -1,4 +1,5 @@
 mod Words
+mod Chains
 pub mod Heads
 mod Shifts
 mod Steps

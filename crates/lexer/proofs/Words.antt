@@ -48,7 +48,7 @@ fits-at (w ∷ l) t zero d h = leb→le _ _ (left (leb (length (w .text)) 10) (f
 fits-at (w ∷ l) t (suc i) d h = fits-at l (right (leb (length (w .text)) 10) (fits l) t) i d (omega arith)
 
 -- 55 words of at most ten letters, by computation
-words-count : length words ≡ 55
+pub words-count : length words ≡ 55
 unfolding words
 words-count = refl
 

@@ -1,8 +1,9 @@
 -- What the lexer's code keeps while it scans: the lent tables, the place it has come to, and what one step adds.
-use mathlib.Core.Bool.{true, false}
+use mathlib.Core.Bool.{true, false, cond}
 use mathlib.Core.List.{List, [], _∷_, _++_, map}
 use mathlib.Core.Path.{_≡_}
-use Prim.Native.Nat.{ℕ, _+_, _≤_}
+use Prim.Native.Nat.{ℕ, suc, _+_, _≤_}
+use lib.Dec.{eqb}
 use lib.ListN.{length, take, drop, replicate, getD}
 use lib.Seq.{slice}
 use Rattle.token.specs.Token.{Token, token, Ranged}
@@ -22,6 +23,19 @@ pub record Tables (ws : List (List ℕ)) (ns ks : List ℕ) : Type 0 where
   pub texts : ws ≡ map padded words
   pub sizes : ns ≡ map (λ (w : Word). length (w .text)) words
   pub types : ks ≡ map (λ (w : Word). w .kind) words
+
+-- the place in a list of the first word that begins with b; the list's length where there is none
+unfoldable pub firstPlace : ℕ → List Word → ℕ
+firstPlace b [] = 0
+firstPlace b (w ∷ ws) = cond (eqb (getD (w .text) 0 0) b) 0 (suc (firstPlace b ws))
+
+-- for each word of a list that begins at place i, the place of the next one with the same first letter
+unfoldable pub nextsFrom : ℕ → List Word → List ℕ
+nextsFrom i [] = []
+nextsFrom i (w ∷ ws) = (i + 1 + firstPlace (getD (w .text) 0 0) ws) ∷ nextsFrom (i + 1) ws
+
+abbrev pub nextPlaces : List ℕ
+nextPlaces = nextsFrom 0 words
 
 abbrev pub wordAt : ℕ → Word
 wordAt i = getD words i (word [] 0)

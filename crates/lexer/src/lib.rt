@@ -7,7 +7,7 @@ ghost use Rattle.token.specs.Token.{token as tokenOf, rows, Room};
 ghost use Rattle.utf8.specs.Utf8.{begins};
 ghost use Rattle.lexer.specs.Words.{words as wordList, better as betterOf, longest as longestOf};
 ghost use Rattle.lexer.specs.Lexer.{isLetter, isDigit, signOf, signHead, wordHead, elem, twoDigits, oneDigit, numberHead, digitAt, headBy, headOf, sizeOf, lex};
-ghost use Rattle.lexer.specs.State.{Tables, padded, wordAt, scan, plan, planOf, Inserted, Emitted, Written, Scanned};
+ghost use Rattle.lexer.specs.State.{Tables, firstPlace, nextPlaces, padded, wordAt, scan, plan, planOf, Inserted, Emitted, Written, Scanned};
 ghost use Rattle.utf8.specs.declared.Found.the-variants as utf8;
 use utf8::Found;
 
@@ -190,6 +190,65 @@ pub const TYPES: [u8; 55] = [
     68,
 ];
 
+// For each word the place of the next one with the same first letter, 55 for none.
+pub const NEXTS: [u8; 55] = [
+    1,
+    49,
+    23,
+    4,
+    6,
+    8,
+    7,
+    9,
+    11,
+    10,
+    12,
+    15,
+    13,
+    14,
+    16,
+    18,
+    17,
+    19,
+    21,
+    20,
+    55,
+    22,
+    55,
+    55,
+    25,
+    55,
+    55,
+    28,
+    51,
+    30,
+    55,
+    32,
+    34,
+    36,
+    35,
+    37,
+    39,
+    38,
+    48,
+    55,
+    42,
+    44,
+    43,
+    55,
+    55,
+    46,
+    55,
+    55,
+    55,
+    55,
+    55,
+    55,
+    55,
+    55,
+    55,
+];
+
 // The longest word so far: its length, 0 for none, and the number of its type.
 pub struct Match {
     pub len: usize,
@@ -281,25 +340,53 @@ fn better(
     m
 }
 
-// The longest word that stands at a place of the text.
+// The place of the first word that begins with a letter, 55 for none.
+fn first_word(b: u8) -> usize
+    ensures { λ r. ⌜ r ≡ firstPlace b wordList ⌝ }
+{
+    match b {
+        b'A' => 31,
+        b'B' => 0,
+        b'C' => 50,
+        b'D' => 27,
+        b'E' => 52,
+        b'F' => 53,
+        b'G' => 54,
+        b'M' => 3,
+        b'N' => 45,
+        b'O' => 40,
+        b'S' => 24,
+        b'a' => 33,
+        b'b' => 2,
+        b'd' => 29,
+        b'm' => 5,
+        b'n' => 47,
+        b'o' => 41,
+        b's' => 26,
+        _ => 55,
+    }
+}
+
+// The longest word that stands at a place of the text: only words with the letter that is there are tried.
 fn longest(
     words: &[[u8; 10]; 55],
     sizes: &[u8; 55],
     types: &[u8; 55],
+    nexts: &[u8; 55],
     text: &[u8],
     at: usize,
 ) -> Match
-    requires { ⌜ Tables (now words) (now sizes) (now types) × (at ≤ length (now text)) ⌝ }
+    requires { ⌜ Tables (now words) (now sizes) (now types) × (at < length (now text)) × (now nexts ≡ nextPlaces) ⌝ }
     ensures { λ r. ⌜ r ≡ longestOf (drop at (now (text .entry))) ⌝ }
 {
     let mut m = Match {
         len: 0,
         kind: ILLEGAL,
     };
-    let mut i = 0;
+    let mut i = first_word(text[at]);
     while i < 55 {
         m = better(words, sizes, types, text, at, i, m);
-        i += 1;
+        i = wide(nexts[i]);
     }
     m
 }
@@ -434,16 +521,17 @@ fn head_by(
     words: &[[u8; 10]; 55],
     sizes: &[u8; 55],
     types: &[u8; 55],
+    nexts: &[u8; 55],
     text: &[u8],
     at: usize,
     c: u32,
     n: usize,
 ) -> Head
-    requires { ⌜ Tables (now words) (now sizes) (now types) × (at < length (now text)) ⌝ }
+    requires { ⌜ Tables (now words) (now sizes) (now types) × (at < length (now text)) × (now nexts ≡ nextPlaces) ⌝ }
     ensures { λ r. ⌜ r ≡ headBy (utf8.Char c n) (drop at (now (text .entry))) ⌝ }
 {
     if is_letter(c) {
-        return word_head(longest(words, sizes, types, text, at));
+        return word_head(longest(words, sizes, types, nexts, text, at));
     }
     if is_digit(c) {
         return number_head(digit_at(text, at), digit_at(text, at + 1));
@@ -454,19 +542,24 @@ fn head_by(
     sign_head(c, n)
 }
 
-// What stands at a place of the text.
+// What stands at a place of the text. A byte below 128 is a character.
 fn head_at(
     words: &[[u8; 10]; 55],
     sizes: &[u8; 55],
     types: &[u8; 55],
+    nexts: &[u8; 55],
     text: &[u8],
     at: usize,
 ) -> Head
-    requires { ⌜ Tables (now words) (now sizes) (now types) × (at < length (now text)) ⌝ }
+    requires { ⌜ Tables (now words) (now sizes) (now types) × (at < length (now text)) × (now nexts ≡ nextPlaces) ⌝ }
     ensures { λ r. ⌜ r ≡ headOf (drop at (now (text .entry))) ⌝ }
 {
+    let b = text[at];
+    if b < 128 {
+        return head_by(words, sizes, types, nexts, text, at, b as u32, 1);
+    }
     match utf8::char_at(text, at) {
-        Found::Char(c, n) => head_by(words, sizes, types, text, at, c, n),
+        Found::Char(c, n) => head_by(words, sizes, types, nexts, text, at, c, n),
         Found::Bad => Head::Word(ILLEGAL, 1),
         Found::End => Head::Word(ILLEGAL, 1),
     }
@@ -559,12 +652,13 @@ fn scan_text(
     words: &[[u8; 10]; 55],
     sizes: &[u8; 55],
     types: &[u8; 55],
+    nexts: &[u8; 55],
     text: &[u8],
     kinds: &mut [u8],
     poss: &mut [u16],
     lens: &mut [u16],
 ) -> usize
-    requires { ⌜ Tables (now words) (now sizes) (now types) × (length (now text) ≤ 256) × Room (length (now text)) (now kinds) (now poss) (now lens) ⌝ }
+    requires { ⌜ Tables (now words) (now sizes) (now types) × (length (now text) ≤ 256) × Room (length (now text)) (now kinds) (now poss) (now lens) × (now nexts ≡ nextPlaces) ⌝ }
     ensures { λ r. ⌜ Written (lex 0 [] 0 (now (text .entry))) r (rows (now (kinds .entry)) (now (poss .entry)) (now (lens .entry))) (rows (now (kinds .exit)) (now (poss .exit)) (now (lens .exit))) × (r ≤ length (now (text .entry))) ⌝ }
 {
     let mut s = Scan {
@@ -574,7 +668,7 @@ fn scan_text(
     };
     while s.at < text.len() {
         let at = s.at;
-        let h = head_at(words, sizes, types, text, at);
+        let h = head_at(words, sizes, types, nexts, text, at);
         s = emit(kinds, poss, lens, h, s);
     }
     s.count
@@ -585,15 +679,16 @@ fn scan_to_end(
     words: &[[u8; 10]; 55],
     sizes: &[u8; 55],
     types: &[u8; 55],
+    nexts: &[u8; 55],
     text: &[u8],
     kinds: &mut [u8],
     poss: &mut [u16],
     lens: &mut [u16],
 ) -> usize
-    requires { ⌜ Tables (now words) (now sizes) (now types) × (length (now text) ≤ 256) × Room (length (now text) + 1) (now kinds) (now poss) (now lens) ⌝ }
+    requires { ⌜ Tables (now words) (now sizes) (now types) × (length (now text) ≤ 256) × Room (length (now text) + 1) (now kinds) (now poss) (now lens) × (now nexts ≡ nextPlaces) ⌝ }
     ensures { λ r. ⌜ Scanned (now (text .entry)) r (rows (now (kinds .entry)) (now (poss .entry)) (now (lens .entry))) (rows (now (kinds .exit)) (now (poss .exit)) (now (lens .exit))) ⌝ }
 {
-    let n = scan_text(words, sizes, types, text, kinds, poss, lens);
+    let n = scan_text(words, sizes, types, nexts, text, kinds, poss, lens);
     let end = text.len() + 1;
     token::put(kinds, poss, lens, n, EOF, end as u16, 0);
     n + 1
@@ -608,5 +703,6 @@ pub fn scan_tokens(text: &[u8], kinds: &mut [u8], poss: &mut [u16], lens: &mut [
     let words = WORDS;
     let sizes = SIZES;
     let types = TYPES;
-    scan_to_end(&words, &sizes, &types, text, kinds, poss, lens)
+    let nexts = NEXTS;
+    scan_to_end(&words, &sizes, &types, &nexts, text, kinds, poss, lens)
 }

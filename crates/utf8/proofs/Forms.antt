@@ -1,5 +1,5 @@
--- From the bytes that the code tests to the definition. Bytes of the right form are an encoding, which is found (`one-found` to
--- `four-found`); bytes that no encoding begins with are Bad (`rejected`), and what an encoding's bytes are goes by its row (`Lead`).
+-- From the bytes that the code tests to the definition. Bytes of the right form are an encoding, which is found (`two-found` to
+-- `four-found`; one byte: `Laws`); bytes that no encoding begins with are Bad (`rejected`), and what an encoding's bytes are goes by its row (`Lead`).
 -- Assumes nothing.
 use mathlib.Core.Bool.{Bool, true, false, not, _&&_, cond}
 use mathlib.Core.List.{List, [], _∷_, _++_}
@@ -12,15 +12,7 @@ use lib.ListN.{length, getD, drop, List·getD-append}
 use borrow.Author.Tests.{lt-ltb, le-ltb, not-true}
 use Rattle.utf8.specs.Utf8.{isScalar, encode, begins, bits, charOf}
 use Rattle.utf8.specs.declared.Found.the-variants.{Char, Bad, End}
-use Rattle.utf8.proofs.Laws.{Row, one, two, three, four, row, scalar-high, low-scalar, high-scalar, charOf-encode, begins-split}
-
-found : (s : List ℕ) (c n : ℕ) → T (isScalar c) → n ≡ length (encode c) → s ≡ encode c ++ drop n s → charOf s ≡ Char c n
-found s c n t e b = ap charOf b ∙ charOf-encode c (drop n s) t ∙ ap (Char c) (sym e)
-
-pub one-found : (s : List ℕ) → 0 < length s → getD s 0 0 < 128 → charOf s ≡ Char (getD s 0 0) 1
-unfolding encode
-one-found [] l h = absurd (omega arith)
-one-found (x ∷ s) l h = found (x ∷ s) x 1 (low-scalar x (omega arith)) (rw (lt-ltb x 128 h)) (rw (lt-ltb x 128 h))
+use Rattle.utf8.proofs.Laws.{Row, one, two, three, four, row, scalar-high, low-scalar, high-scalar, found, begins-split}
 
 pub two-found : (s : List ℕ) (c : ℕ) → 1 < length s → 128 ≤ c → c < 2048 → getD s 0 0 ≡ 192 + c / 64 → getD s 1 0 ≡ 128 + c % 64 → charOf s ≡ Char c 2
 unfolding encode

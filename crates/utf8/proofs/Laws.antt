@@ -9,8 +9,8 @@ use Prim.Native.Nat.{ℕ, zero, suc, _+_, _-_, _/_, _%_, _≤_, _<_}
 use native.Mathlib.Nat.{div-div-eq-div-mul}
 use native.Mathlib.Omega.{arith}
 use lib.Dec.{T, eqb, ltb, ltb→lt}
-use lib.ListN.{length, drop, length-append}
-use lib.Seq.{drop-append-seam}
+use lib.ListN.{length, getD, drop, length-append}
+use lib.Seq.{drop-append-seam, drop-cons}
 use borrow.Author.Tests.{lt-ltb, le-ltb, ltb-true, ltb-false, eqb-true, eq-eqb}
 use Rattle.utf8.specs.Utf8.{isScalar, encode, encodeAll, allScalar, WellFormed, begins, bits, charOf, charAt, afterChar, wellFrom, wellFormed}
 use Rattle.utf8.specs.declared.Found.the-variants.{Char, Bad, End}
@@ -119,6 +119,18 @@ found-begins (x ∷ s) c t e b = rw (e, b, is-true (isScalar c) t)
 -- every encoding is found, whatever stands behind it
 pub charOf-encode : (c : ℕ) (r : List ℕ) → T (isScalar c) → charOf (encode c ++ r) ≡ Char c (length (encode c))
 charOf-encode c r t = found-begins (encode c ++ r) c t (bits-encode c r t) (begins-append (encode c) r)
+
+pub found : (s : List ℕ) (c n : ℕ) → T (isScalar c) → n ≡ length (encode c) → s ≡ encode c ++ drop n s → charOf s ≡ Char c n
+found s c n t e b = ap charOf b ∙ charOf-encode c (drop n s) t ∙ ap (Char c) (sym e)
+
+-- a byte below 128 is a character of one byte, at the head of a text and at a position
+pub one-found : (s : List ℕ) → 0 < length s → getD s 0 0 < 128 → charOf s ≡ Char (getD s 0 0) 1
+unfolding encode
+one-found [] l h = absurd (omega arith)
+one-found (x ∷ s) l h = found (x ∷ s) x 1 (low-scalar x (omega arith)) (rw (lt-ltb x 128 h)) (rw (lt-ltb x 128 h))
+
+pub ascii-at : (s : List ℕ) (i : ℕ) → i < length s → getD s i 0 < 128 → charAt s i ≡ Char (getD s i 0) 1
+ascii-at s i l h = let e = drop-cons s i 0 l in ap charOf e ∙ one-found (getD s i 0 ∷ drop (suc i) s) (omega arith) h
 
 pub begins-split : (p s : List ℕ) → begins p s ≡ true → s ≡ p ++ drop (length p) s
 begins-split [] s e = refl

@@ -141,12 +141,16 @@ pub fn char_at(text: &[u8], at: usize) -> Found
     first_char(&text[at..])
 }
 
-// Is the text a run of characters?
+// Is the text a run of characters? A byte below 128 is one.
 pub fn well_formed(text: &[u8]) -> bool
     ensures { λ r. ⌜ r ≡ wellFormed (now (text .entry)) ⌝ }
 {
     let mut at = 0;
     while at < text.len() {
+        if text[at] < 128 {
+            at += 1;
+            continue;
+        }
         match char_at(text, at) {
             Found::Char(_, n) => at += n,
             Found::Bad => return false,

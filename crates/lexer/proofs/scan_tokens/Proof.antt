@@ -1,17 +1,18 @@
--- The three tables are the word list, by computation.
+-- The tables are the word list and its chains, by computation.
 -- Assumes nothing.
 use mathlib.Core.Path.{refl}
 use borrow.Author.Needs.{needs}
+use Rattle.lexer.specs.State.{nextsFrom, firstPlace}
 use Rattle.lexer.specs.Words as Words
 use Rattle.lexer.specs.Words.{words}
 use Rattle.lexer.proofs.scan_tokens.Statement.{statement}
 use Rattle.lexer.proofs.scan_tokens.Tie as tie
 
 scan-to-end-requires : tie.Need-scan-to-end-requires
-unfolding Words.words
+unfolding Words.words nextsFrom firstPlace
 scan-to-end-requires c κs =
-    let p = c .before .before .before .before .before .before .before .before .before .before .pre in
-    (record { texts = refl; sizes = refl; types = refl }, p .0, p .1)
+    let p = c .before .before .before .before .before .before .before .before .before .before .before .pre in
+    (record { texts = refl; sizes = refl; types = refl }, p .0, p .1, refl)
 
 same-length : tie.Need-same-length
 same-length c = search needs

@@ -6,7 +6,8 @@ use native.Mathlib.Omega.{arith}
 use lib.ListN.{length}
 use borrow.Author.Needs.{needs}
 use Rattle.utf8.specs.declared.Found.the-variants.{Char}
-use Rattle.utf8.proofs.Forms.{empty-end, bad-lead, high-lead, one-found}
+use Rattle.utf8.proofs.Forms.{empty-end, bad-lead, high-lead}
+use Rattle.utf8.proofs.Laws.{one-found}
 use Rattle.utf8.proofs.first_char.Statement.{statement}
 use Rattle.utf8.proofs.first_char.Tie as tie
 
