@@ -1,0 +1,88 @@
+//! A safe wrapper of the C library: what the two functions ask of their pointers is what Rust's references promise.
+
+pub const ERRORS: usize = 1028;
+pub const BUFFER: usize = 112;
+
+/// A chord record; any values may stand in it.
+#[repr(C)]
+#[derive(Clone, Copy, Debug, PartialEq, Eq)]
+pub struct Chord {
+    /// C 0 to B 6, 255 for none.
+    pub root_letter: u8,
+    pub root_alteration: i8,
+    pub bass_letter: u8,
+    pub bass_alteration: i8,
+    /// 1 for a member.
+    pub normalized: [u8; 23],
+    pub display_count: u8,
+    pub display: [u8; 23],
+}
+
+const _: () = assert!(size_of::<Chord>() == 51);
+
+/// An error: its kind and its values.
+#[derive(Clone, Copy, Debug, PartialEq, Eq)]
+pub struct Error {
+    pub kind: u16,
+    pub values: [u16; 3],
+}
+
+/// Why a text was refused, with the paper's numbers 2 to 5. (1 cannot occur: the list here is long enough.)
+#[derive(Clone, Debug, PartialEq, Eq)]
+pub enum Refusal {
+    LongText,
+    NotUtf8,
+    Parse(Vec<Error>),
+    Validation(Vec<Error>),
+}
+
+mod c {
+    unsafe extern "C" {
+        pub fn nophtris_read(
+            text: *const u8,
+            text_len: usize,
+            errors: *mut u16,
+            errors_len: usize,
+            count: *mut u16,
+            chord: *mut super::Chord,
+        ) -> u8;
+        pub fn nophtris_write(chord: *const super::Chord, buffer: *mut u8, buffer_len: usize, length: *mut u16) -> u8;
+    }
+}
+
+/// Reads any bytes.
+pub fn read(text: &[u8]) -> Result<Chord, Refusal> {
+    let mut errors = [0u16; ERRORS];
+    let mut count = 0;
+    let mut chord = Chord {
+        root_letter: 255,
+        root_alteration: 0,
+        bass_letter: 255,
+        bass_alteration: 0,
+        normalized: [0; 23],
+        display_count: 0,
+        display: [0; 23],
+    };
+    // SAFETY: each pointer comes from a slice or a reference, with that slice's length, and no two overlap.
+    let number = unsafe {
+        c::nophtris_read(text.as_ptr(), text.len(), errors.as_mut_ptr(), errors.len(), &mut count, &mut chord)
+    };
+    let list = || errors.chunks(4).take(count as usize).map(|e| Error { kind: e[0], values: [e[1], e[2], e[3]] }).collect();
+    match number {
+        0 => Ok(chord),
+        2 => Err(Refusal::LongText),
+        3 => Err(Refusal::NotUtf8),
+        4 => Err(Refusal::Parse(list())),
+        5 => Err(Refusal::Validation(list())),
+        n => unreachable!("{n}"),
+    }
+}
+
+/// The house spelling of a record; none where no accepted text has its four.
+pub fn write(chord: &Chord) -> Option<String> {
+    let mut buffer = [0u8; BUFFER];
+    let mut length = 0;
+    // SAFETY: as above.
+    let number = unsafe { c::nophtris_write(chord, buffer.as_mut_ptr(), buffer.len(), &mut length) };
+    (number == 0).then(|| String::from_utf8_lossy(&buffer[..length as usize]).into_owned())
+}
