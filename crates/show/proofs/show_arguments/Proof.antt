@@ -1,0 +1,35 @@
+-- The measure is what is left.
+-- Assumes nothing.
+use Prim.Native.Nat.{_-_, _≤_}
+use borrow.Author.Needs.{needs}
+use Rattle.show.proofs.show_arguments.Statement.{statement}
+use Rattle.show.proofs.show_arguments.Tie as tie
+
+abbrev Inv-loop : tie.InvT-loop
+Inv-loop count i₀ i = (1 ≤ i)
+
+abbrev μ-loop : tie.MeasureT-loop
+μ-loop count i₀ i = count - i
+
+loop-holds : tie.Need-loop-holds Inv-loop μ-loop
+loop-holds c = search needs
+
+show-argument-requires : tie.Need-show-argument-requires Inv-loop μ-loop
+show-argument-requires c κs = search needs
+
+add-i : tie.Need-add-i Inv-loop μ-loop
+add-i c = search needs
+
+loop-less : tie.Need-loop-less Inv-loop μ-loop
+loop-less c = search needs
+
+loop-again : tie.Need-loop-again Inv-loop μ-loop
+loop-again c = search needs
+
+returns : tie.Need-returns Inv-loop μ-loop
+returns c = search needs
+
+pub show-arguments-spec : {M : Type 1} → statement M
+show-arguments-spec =
+    tie.close
+    (tie.spec Inv-loop μ-loop loop-holds show-argument-requires add-i loop-less loop-again returns)

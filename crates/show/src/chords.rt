@@ -1,0 +1,177 @@
+// The line of an accepted text.
+ghost use Prim.Native.Nat.{_<_, _≤_};
+use crate::print::put;
+use crate::print::put_first;
+use crate::print::put_name;
+use crate::print::put_number;
+use crate::print::put_text;
+use chord::Chord;
+use chord::interval::IntervalSet;
+use chord::interval::st;
+use chord::note::Note;
+use chord::note::NoteLiteral;
+use chord::note::OptionalNote;
+use chord::note::RootModifier;
+
+fn put_spelling(chord: Chord) {
+    let mut buffer = [0u8; 112];
+    match writer::write(chord, &mut buffer) {
+        writer::Answer::Spelled(n) => put_first(&buffer, n),
+        writer::Answer::ShortBuffer => put(b"?"),
+        writer::Answer::NoText => put(b"?"),
+    }
+}
+
+fn put_letter(l: NoteLiteral) {
+    match l {
+        NoteLiteral::C => put(b"C"),
+        NoteLiteral::D => put(b"D"),
+        NoteLiteral::E => put(b"E"),
+        NoteLiteral::F => put(b"F"),
+        NoteLiteral::G => put(b"G"),
+        NoteLiteral::A => put(b"A"),
+        NoteLiteral::B => put(b"B"),
+    }
+}
+
+fn put_modifier(m: RootModifier) {
+    match m {
+        RootModifier::Natural => put(b""),
+        RootModifier::Sharp => put(b"#"),
+        RootModifier::Flat => put(b"b"),
+    }
+}
+
+fn put_note(note: OptionalNote) {
+    match note {
+        OptionalNote::None => put(b"none"),
+        OptionalNote::Some(n) => {
+            let l = n.literal;
+            let m = n.modifier;
+            put_letter(l);
+            put_modifier(m);
+        }
+    }
+}
+
+fn put_intervals(set: IntervalSet) {
+    let mut i = 0;
+    while i < 23 {
+        if set.contains(i) {
+            put(b" ");
+            put_name(i as u16);
+        }
+        i += 1;
+    }
+}
+
+// The pitch classes: which of the twelve sound.
+struct Classes {
+    sound: [bool; 12],
+}
+
+// The pitch class of a letter, 12 for C, so that a flat can be taken from it.
+fn letter_class(l: NoteLiteral) -> u16
+    ensures { λ r. ⌜ (1 ≤ r) × (r ≤ 12) ⌝ }
+{
+    match l {
+        NoteLiteral::C => 12,
+        NoteLiteral::D => 2,
+        NoteLiteral::E => 4,
+        NoteLiteral::F => 5,
+        NoteLiteral::G => 7,
+        NoteLiteral::A => 9,
+        NoteLiteral::B => 11,
+    }
+}
+
+fn class_of(n: Note) -> u16
+    ensures { λ r. ⌜ r < 12 ⌝ }
+{
+    let l = n.literal;
+    let m = n.modifier;
+    let c = letter_class(l);
+    match m {
+        RootModifier::Natural => c % 12,
+        RootModifier::Sharp => (c + 1) % 12,
+        RootModifier::Flat => (c - 1) % 12,
+    }
+}
+
+fn with_class(classes: Classes, class: u16) -> Classes
+    requires { ⌜ class < 12 ⌝ }
+{
+    let i = class as usize;
+    let mut c = classes;
+    c.sound[i] = true;
+    c
+}
+
+// The classes with the interval i above a root class, if it is a member.
+fn with_interval(classes: Classes, set: IntervalSet, root: u16, i: u8) -> Classes
+    requires { ⌜ (root < 12) × (i < 23) ⌝ }
+{
+    if set.contains(i) {
+        return with_class(classes, (root + (st(i) as u16)) % 12);
+    }
+    classes
+}
+
+fn with_set(classes: Classes, set: IntervalSet, root: u16) -> Classes
+    requires { ⌜ root < 12 ⌝ }
+{
+    let mut c = classes;
+    let mut i = 0;
+    while i < 23 {
+        c = with_interval(c, set, root, i);
+        i += 1;
+    }
+    c
+}
+
+fn with_bass(classes: Classes, bass: OptionalNote) -> Classes {
+    match bass {
+        OptionalNote::None => classes,
+        OptionalNote::Some(n) => with_class(classes, class_of(n)),
+    }
+}
+
+fn put_classes(classes: Classes) {
+    let mut i = 0;
+    while i < 12 {
+        if classes.sound[i] {
+            put(b" ");
+            put_number(i as u64);
+        }
+        i += 1;
+    }
+}
+
+fn put_sound(root: OptionalNote, bass: OptionalNote, set: IntervalSet) {
+    let none = Classes { sound: [false; 12] };
+    match root {
+        OptionalNote::None => put(b" none"),
+        OptionalNote::Some(n) => {
+            let c = with_set(none, set, class_of(n));
+            put_classes(with_bass(c, bass));
+        }
+    }
+}
+
+pub(crate) fn put_chord(text: &[u8], chord: Chord) {
+    let root = chord.root;
+    let bass = chord.bass;
+    let set = chord.normalized;
+    put_text(text);
+    put(b": ");
+    put_spelling(chord);
+    put(b"; root ");
+    put_note(root);
+    put(b"; bass ");
+    put_note(bass);
+    put(b"; intervals");
+    put_intervals(set);
+    put(b"; pitch classes");
+    put_sound(root, bass, set);
+    put(b"\n");
+}
