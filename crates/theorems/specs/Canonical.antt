@@ -7,18 +7,18 @@ use mathlib.Core.Logic.{_↔_}
 use mathlib.Core.Path.{_≡_, sym, ap, _∙_}
 use Prim.Native.Nat.{ℕ, _≤_}
 use lib.ListN.{length}
-use Rattle.chord.specs.Chord.{Four}
-use Rattle.house.specs.Question.{Low, realizable}
+use Rattle.chord.specs.Chord.{Four, fourOf}
+use Rattle.chord.specs.declared.Chord.{Chord}
+use Rattle.house.specs.Question.{realizable}
 use Rattle.pieces.proofs.Length.{house-length}
 use Rattle.pieces.proofs.Realized.{accepted-realizable, spelling-realizes}
-use Rattle.pieces.proofs.Realized as realized
 use Rattle.pieces.specs.Spelling.{house}
 use Rattle.reader.specs.Reader.{IsAccepted, readOf}
+use Rattle.writer.proofs.Answers.{decided}
 
--- "Has some accepted text exactly these four?": exactly when the test of the writer's question passes. (No record's set has a member outside
--- the table, `Low`.)
-pub some-text : (f : Four) → Low (f .normalized) → (realizable f ≡ true) ↔ ((t : List ℕ) × IsAccepted t f)
-some-text = realized.some-text
+-- "Has some accepted text exactly these four?": exactly when the test of the writer's question passes, of any record
+pub some-text : (c : Chord) → (realizable (fourOf c) ≡ true) ↔ ((t : List ℕ) × IsAccepted t (fourOf c))
+some-text = decided
 
 -- every accepted text has a spelling, "which is accepted and reads as the same four"
 pub spelling-accepted : (t : List ℕ) (f : Four) → IsAccepted t f → IsAccepted (house f) f

@@ -11,6 +11,7 @@ use lib.Dec.{ltb}
 use lib.ListN.{drop, length}
 use borrow.Author.Tests.{ltb-false, ltb-true}
 use Rattle.chord.specs.Chord.{Four, fourOf}
+use Rattle.chord.specs.declared.Chord.{Chord}
 use Rattle.house.specs.Question.{realizable}
 use Rattle.pieces.proofs.Realized.{accepted-realizable, says-test}
 use Rattle.pieces.specs.Spelling.{house}
@@ -20,6 +21,7 @@ use Rattle.reader.specs.State as reader·state
 use Rattle.reader.specs.declared.Answer.the-variants.{Accepted, ShortList}
 use Rattle.reader.specs.declared.Reading.{Reading}
 use Rattle.theorems.specs.Reading.{room-enough}
+use Rattle.writer.proofs.Answers.{decided}
 use Rattle.writer.specs.State.{Gave}
 use Rattle.writer.specs.Writer.{Decided, Outcome, numberOf, refused, spelled, writeOf}
 use Rattle.writer.specs.declared.Answer.the-variants.{Spelled, ShortBuffer, NoText}
@@ -48,10 +50,9 @@ module _ (f : Four) (a : Answer) (bs bs′ : List ℕ) (g : Gave (writeOf (lengt
       (λ h q. (λ e. absurd (omega (arith, e)), λ k. absurd (omega (arith, h, k)))) (λ h q. (λ e. absurd (omega (arith, e)), λ k. absurd (omega (arith, h, k)))) in
       (λ e. o .0 (sym number ∙ e), λ k. number ∙ o .1 k)
 
-  -- "Has some accepted text exactly these four? No: 7.": of a record (`Decided`, which the contract promises of each) with a buffer of at least
-  -- 112 bytes
-  pub seven : Decided f → 112 ≤ length bs → (numberOf a ≡ 7) ↔ ((t : List ℕ) → IsAccepted t f → ⊥)
-  seven d h =
+  -- the answer 7, where the test decides the question
+  seven-by : Decided f → 112 ≤ length bs → (numberOf a ≡ 7) ↔ ((t : List ℕ) → IsAccepted t f → ⊥)
+  seven-by d h =
       let o : (numberOf (writeOf (length bs) f .answer) ≡ 7) ↔ ((t : List ℕ) → IsAccepted t f → ⊥) =
       of-write (length bs) f (λ (o : Outcome). (numberOf (o .answer) ≡ 7) ↔ ((t : List ℕ) → IsAccepted t f → ⊥)) (λ k. absurd (omega (arith, h, k)))
       (λ k q. (λ e. absurd (omega (arith, e)), λ n. absurd (n (d .0 q .0) (d .0 q .1))))
@@ -72,6 +73,11 @@ module _ (f : Four) (a : Answer) (bs bs′ : List ℕ) (g : Gave (writeOf (lengt
       of-write (length bs) f (λ (o : Outcome). numberOf (o .answer) ≡ 0 → o ≡ spelled (house f)) (λ h k. absurd (omega (arith, k))) (λ h q k. refl)
       (λ h q k. absurd (omega (arith, k))) (sym number ∙ e) in
       (g .answer ∙ ap (λ (x : Outcome). x .answer) o, g .buffer ∙ ap (λ (x : Outcome). x .bytes ++ drop (length (x .bytes)) bs) o)
+
+-- "Has some accepted text exactly these four? No: 7.": of any record, with a buffer of at least 112 bytes
+pub seven : (c : Chord) (a : Answer) (bs bs′ : List ℕ) → Gave (writeOf (length bs) (fourOf c)) a bs bs′ → 112 ≤ length bs
+    → (numberOf a ≡ 7) ↔ ((t : List ℕ) → IsAccepted t (fourOf c) → ⊥)
+seven c a bs bs′ g h = seven-by (fourOf c) a bs bs′ g (decided c) h
 
 -- a text that is accepted, with whatever room the list had
 of-room : (room : ℕ) (t : List ℕ) → readOf room t .answer ≡ Accepted → 1028 ≤ room

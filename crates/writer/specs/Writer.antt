@@ -41,6 +41,6 @@ spelled t = record { answer = Spelled (length t); bytes = t }
 unfoldable pub writeOf : ℕ → Four → Outcome
 writeOf room f = cond (ltb room 112) (refused ShortBuffer) (cond (realizable f) (spelled (house f)) (refused NoText))
 
--- the test is the paper's question
+-- "Has some accepted text exactly these four?": the test is that question
 abbrev pub Decided : Four → Type 0
 Decided f = (realizable f ≡ true) ↔ ((t : List ℕ) × IsAccepted t f)

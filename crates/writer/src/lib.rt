@@ -1,14 +1,10 @@
 // Writing a record: the two questions, in the paper's order, and its house spelling.
-ghost use mathlib.Core.Bool.{true};
-ghost use mathlib.Core.List.{List};
-ghost use mathlib.Core.Logic.{_↔_};
 ghost use mathlib.Core.Path.{_≡_};
-ghost use Prim.Native.Nat.{ℕ, _≤_};
+ghost use Prim.Native.Nat.{_≤_};
 ghost use lib.ListN.{length};
 ghost use Rattle.chord.specs.Chord.{fourOf};
 ghost use Rattle.house.specs.Question.{realizable};
 ghost use Rattle.pieces.specs.Spelling.{house};
-ghost use Rattle.reader.specs.Reader.{IsAccepted};
 ghost use Rattle.writer.specs.State.{Gave, Put};
 ghost use Rattle.writer.specs.Writer.{Decided, writeOf};
 use chord::Chord;
@@ -26,9 +22,9 @@ pub enum Answer {
     NoText,
 }
 
-// Has some accepted text exactly the record's four?
+// Has some accepted text exactly the record's four? The answer is the test `realizable`, and the test is that question.
 pub fn has_text(chord: Chord) -> bool
-    ensures { λ r. ⌜ (r ≡ realizable (fourOf chord)) × ((r ≡ true) ↔ ((t : List ℕ) × IsAccepted t (fourOf chord))) ⌝ }
+    ensures { λ r. ⌜ (r ≡ realizable (fourOf chord)) × Decided (fourOf chord) ⌝ }
 {
     is_realizable(chord)
 }
@@ -50,7 +46,7 @@ fn spell(chord: Chord, buffer: &mut [u8]) -> usize
 
 // Writes any record, with any lent buffer. The spelling fills its own bytes, from the first on; all else in the buffer is untouched.
 pub fn write(chord: Chord, buffer: &mut [u8]) -> Answer
-    ensures { λ r. ⌜ Gave (writeOf (length (now (buffer .entry))) (fourOf chord)) r (now (buffer .entry)) (now (buffer .exit)) × Decided (fourOf chord) ⌝ }
+    ensures { λ r. ⌜ Gave (writeOf (length (now (buffer .entry))) (fourOf chord)) r (now (buffer .entry)) (now (buffer .exit)) ⌝ }
 {
     if buffer.len() < 112 {
         return Answer::ShortBuffer;

@@ -39,7 +39,7 @@ cast-size c =
     let b5 = c .before .before .before .before .before in
     let b7 = b5 .before .before in
     let a = b7 .before .before .before .before .before .before .before .args in
-    omega (arith, spelled-few (length (a .buffer .now)) (fourOf (b7 .decode .result)) (b5 .write .ensures .0 .answer) (c .before .n .given .1))
+    omega (arith, spelled-few (length (a .buffer .now)) (fourOf (b7 .decode .result)) (b5 .write .ensures .answer) (c .before .n .given .1))
 
 enum-told : tie.Need-enum-told
 enum-told c = search needs
@@ -57,7 +57,7 @@ returns-3 c =
     let t = d .before .before in
     let b = t .before .before .before in
     let a = b .before .before .args in
-    gave-inside (a .chord .now) (a .buffer .now) (a .size .now) (b .if1 .left) (Spelled _) (sym (t .before .is-inside .ensures) ∙ not-false _ (t .if2 .left)) (d .decode .ensures) (c .before .n .given .1) (w .write .ensures .0)
+    gave-inside (a .chord .now) (a .buffer .now) (a .size .now) (b .if1 .left) (Spelled _) (sym (t .before .is-inside .ensures) ∙ not-false _ (t .if2 .left)) (d .decode .ensures) (c .before .n .given .1) (w .write .ensures)
 
 same-length-2 : tie.Need-same-length-2
 same-length-2 c = search needs
@@ -69,7 +69,7 @@ returns-4 c =
     let t = d .before .before in
     let b = t .before .before .before in
     let a = b .before .before .args in
-    gave-inside (a .chord .now) (a .buffer .now) (a .size .now) (b .if1 .left) ShortBuffer (sym (t .before .is-inside .ensures) ∙ not-false _ (t .if2 .left)) (d .decode .ensures) (c .enum-told .given .1) (w .write .ensures .0)
+    gave-inside (a .chord .now) (a .buffer .now) (a .size .now) (b .if1 .left) ShortBuffer (sym (t .before .is-inside .ensures) ∙ not-false _ (t .if2 .left)) (d .decode .ensures) (c .enum-told .given .1) (w .write .ensures)
 
 same-length-3 : tie.Need-same-length-3
 same-length-3 c = search needs
@@ -81,7 +81,7 @@ returns-5 c =
     let t = d .before .before in
     let b = t .before .before .before in
     let a = b .before .before .args in
-    gave-inside (a .chord .now) (a .buffer .now) (a .size .now) (b .if1 .left) NoText (sym (t .before .is-inside .ensures) ∙ not-false _ (t .if2 .left)) (d .decode .ensures) (c .enum-told2 .given .1) (w .write .ensures .0)
+    gave-inside (a .chord .now) (a .buffer .now) (a .size .now) (b .if1 .left) NoText (sym (t .before .is-inside .ensures) ∙ not-false _ (t .if2 .left)) (d .decode .ensures) (c .enum-told2 .given .1) (w .write .ensures)
 
 pub nophtris-write-spec : {M : Type 1} → statement M
 nophtris-write-spec =

@@ -1,6 +1,5 @@
 -- The test decides the question, since no record's set has a member outside the table.
 -- Assumes nothing.
-use mathlib.Core.Path.{sym, _∙_}
 use borrow.Author.Needs.{needs}
 use Rattle.writer.proofs.Answers.{decided}
 use Rattle.writer.proofs.has_text.Statement.{statement}
@@ -10,11 +9,7 @@ is-realizable-requires : tie.Need-is-realizable-requires
 is-realizable-requires c κs = search needs
 
 returns : tie.Need-returns
-returns c =
-    let a = c .before .args .chord in
-    let e = c .is-realizable .ensures in
-    let d = decided a in
-    (e, (λ q. d .0 (sym e ∙ q), λ x. e ∙ d .1 x))
+returns c = (c .is-realizable .ensures, decided (c .before .args .chord))
 
 pub has-text-spec : {M : Type 1} → statement M
 has-text-spec = tie.close (tie.spec is-realizable-requires returns)

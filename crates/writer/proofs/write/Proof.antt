@@ -4,14 +4,14 @@ use mathlib.Core.Path.{sym, _∙_}
 use native.Mathlib.Omega.{arith}
 use borrow.Author.Needs.{needs}
 use Rattle.chord.specs.Chord.{fourOf}
-use Rattle.writer.proofs.Answers.{decided, negated, gave-short, gave-no-text, gave-spelled}
+use Rattle.writer.proofs.Answers.{negated, gave-short, gave-no-text, gave-spelled}
 use Rattle.writer.proofs.write.Statement.{statement}
 use Rattle.writer.proofs.write.Tie as tie
 
 returns : tie.Need-returns
 returns c =
     let a = c .before .before .args in
-    (gave-short (fourOf (a .chord)) (a .buffer .now) (omega (arith, c .if1 .taken)), decided (a .chord))
+    gave-short (fourOf (a .chord)) (a .buffer .now) (omega (arith, c .if1 .taken))
 
 has-text-requires : tie.Need-has-text-requires
 has-text-requires c κs = search needs
@@ -19,7 +19,7 @@ has-text-requires c κs = search needs
 returns-2 : tie.Need-returns-2
 returns-2 c =
     let a = c .before .before .before .before .args in
-    (gave-no-text (fourOf (a .chord)) (a .buffer .now) (c .before .before .if1 .left) (sym (c .before .has-text .ensures .0) ∙ negated _ _ (c .if2 .taken)), decided (a .chord))
+    gave-no-text (fourOf (a .chord)) (a .buffer .now) (c .before .before .if1 .left) (sym (c .before .has-text .ensures .0) ∙ negated _ _ (c .if2 .taken))
 
 spell-requires : tie.Need-spell-requires
 spell-requires c κs = search needs
@@ -30,7 +30,7 @@ same-length c = search needs
 returns-3 : tie.Need-returns-3
 returns-3 c =
     let a = c .before .before .before .before .before .before .before .before .args in
-    (gave-spelled (fourOf (a .chord)) (a .buffer .now) (c .before .before .before .before .before .before .if1 .left) (sym (c .before .before .before .before .before .has-text .ensures .0) ∙ negated _ _ (c .before .before .before .before .if2 .left)) (c .before .before .spell .ensures), decided (a .chord))
+    gave-spelled (fourOf (a .chord)) (a .buffer .now) (c .before .before .before .before .before .before .if1 .left) (sym (c .before .before .before .before .before .has-text .ensures .0) ∙ negated _ _ (c .before .before .before .before .if2 .left)) (c .before .before .spell .ensures)
 
 pub write-spec : {M : Type 1} → statement M
 write-spec =
