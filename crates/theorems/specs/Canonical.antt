@@ -20,11 +20,11 @@ use Rattle.writer.proofs.Answers.{decided}
 pub some-text : (c : Chord) → (realizable (fourOf c) ≡ true) ↔ ((t : List ℕ) × IsAccepted t (fourOf c))
 some-text = decided
 
--- every accepted text has a spelling, "which is accepted and reads as the same four"
+-- every accepted text has a spelling, which is accepted and reads as the same four
 pub spelling-accepted : (t : List ℕ) (f : Four) → IsAccepted t f → IsAccepted (house f) f
 spelling-accepted t f a = spelling-realizes f (accepted-realizable t f a)
 
--- two accepted texts "have the same house spelling exactly when they have the same four"
+-- two accepted texts have the same house spelling exactly when they have the same four
 pub same-spelling : (t u : List ℕ) (f g : Four) → IsAccepted t f → IsAccepted u g → (house f ≡ house g) ↔ (f ≡ g)
 same-spelling t u f g a c = (
   λ e. sym (spelling-accepted t f a .four) ∙ ap (λ (x : List ℕ). readOf 1028 x .four) e ∙ spelling-accepted u g c .four,
