@@ -1,27 +1,30 @@
 -- The walk, token by token.
 use mathlib.Core.Bool.{Bool, true, false, cond}
 use mathlib.Core.List.{List, [], _∷_}
-use mathlib.Core.Path.{_≡_, refl, sym, ap, _∙_}
+use mathlib.Core.Path.{_≡_, refl, sym, ap, subst, _∙_}
 use Prim.Native.Nat.{ℕ, zero, suc, _+_, _*_, _≤_, _<_}
 use native.Mathlib.Numerals.{add-one}
 use native.Mathlib.Omega.{arith}
+use lib.Dec.{T as IsTrue}
 use lib.ListN.{length, drop, getD}
 use lib.Seq.{drop-drop, drop-nil}
 use Rattle.chord.specs.declared.note.OptionalNote.{OptionalNote}
 use Rattle.chord.specs.declared.note.RootModifier.{RootModifier}
 use Rattle.behind.specs.Next.{noteIn, signIn}
+use Rattle.step.specs.Step.{bracketKind, insideOf}
 use Rattle.step.specs.declared.effect.Effect.{Effect}
+use Rattle.step.specs.declared.effect.Here.{Here}
 use Rattle.behind.specs.declared.Ahead.{Ahead}
 use Rattle.behind.specs.declared.Next.{Next}
 use Rattle.step.specs.declared.step.Bracket.the-variants.{Opens, Closes, Ends, Other}
 use Rattle.step.specs.declared.step.Bracket.{Bracket}
 use Rattle.token.specs.Token.{Token, rows, typeOf}
+use Rattle.token.specs.declared.TokenType.{TokenType}
 use Rattle.parser.specs.Parser.{Parsing, aheadOf, applied, blank, effectAt, ends, enter, leave, nextAt, opens, parseOf, rootEffect, rootOf, skipping, walk}
-use Rattle.parser.specs.State.{Did, Kept, Ready, Took, Bracketed, Advanced, Whole, Parsed, aheadIn, bracketIn, hereIn, insideIn, nextIn, outsideIn, view}
+use Rattle.parser.specs.State.{Did, Kept, Ready, Took, Read, Parsed, aheadIn, bracketBy, bracketIn, effectIn, hereIn, nextIn, stackBy, start, view}
 use Rattle.parser.specs.declared.state.State.{State}
 use Rattle.parser.proofs.Lists.{later}
 use Rattle.parser.proofs.Rows.{ahead-is, drop-none, drop-row, next-is}
-use Rattle.parser.proofs.Effects.{start}
 
 -- tokens that are taken already are passed over
 skips : (n : ℕ) (stk : List ℕ) (s : Parsing) (ts : List Token) → walk stk (skipping n s) ts ≡ walk stk (skipping 0 s) (drop n ts)
@@ -50,12 +53,29 @@ did-walk T stk {e} {st} {r} {es} {es′} {xs} {xs′} d =
     ∙ ap (λ (l : List Token). walk stk (skipping 0 (applied e (view st es xs))) l) (drop-drop (e .taken) (st .at + 1) T)
     ∙ (λ i. walk stk (sym (d .same) i) (drop (sym (d .moved) i) T))
 
--- outside any bracket there is none to leave
-none-left : (b : Bracket) → leave b [] ≡ []
-none-left Opens = refl
-none-left Closes = refl
-none-left Ends = refl
-none-left Other = refl
+-- the token at the end of a bracket leaves it; outside any bracket there is none to leave
+left : (inside : Bool) (q : ℕ) (b : Bracket) (stk : List ℕ) → leave b (stackBy inside q stk) ≡ cond (ends (cond inside b Other)) stk (stackBy inside q stk)
+left true q b stk = refl
+left false q Opens stk = refl
+left false q Closes stk = refl
+left false q Ends stk = refl
+left false q Other stk = refl
+
+effect-by : (inside : Bool) (q : ℕ) (stk : List ℕ) (k : TokenType) (h : Here) (a : Ahead) → effectAt (stackBy inside q stk) k h a ≡ insideOf (cond inside (bracketKind k) Other) q k h a
+effect-by true q stk k h a = refl
+effect-by false q stk k h a = refl
+
+-- outside any bracket no token ends one
+none-ends : (inside : Bool) (b : Bracket) {A : Type 0} → ends (cond inside b Other) ≡ true → inside ≡ false → A
+none-ends true b h n = absurd (subst IsTrue n tt)
+none-ends false b h n = absurd (subst IsTrue (sym h) tt)
+
+-- tokens were taken, after which the same brackets are open as before, whatever brackets are open around them
+pub record Within (ks ps ls : List ℕ) (inside : Bool) (q : ℕ) (st r : State) (es es′ xs xs′ : List ℕ) : Type 0 where
+  pub same : (stk : List ℕ) → walk (stackBy inside q stk) (view st es xs) (drop (st .at) (rows ks ps ls)) ≡ walk (stackBy inside q stk) (view r es′ xs′) (drop (r .at) (rows ks ps ls))
+  pub kept : Kept st r es es′ xs xs′
+  pub ready : Ready r
+  pub forward : st .at ≤ r .at
 
 module _ (ks ps ls : List ℕ) (even : length ps ≡ length ks) (flat : length ls ≡ length ks) where
   abbrev T : List Token
@@ -89,7 +109,7 @@ module _ (ks ps ls : List ℕ) (even : length ps ≡ length ks) (flat : length l
       }
 
   -- a token was taken, and the bracket that it opens
-  pub took-bracket : {e : Effect} {st u r : State} {es es₁ es₂ xs xs₁ xs₂ : List ℕ} → opens (bracketIn ks (st .at)) ≡ true → Did e st u es es₁ xs xs₁ → Bracketed ks ps ls (getD ps (st .at) 0) u r es₁ es₂ xs₁ xs₂ → Took ks ps ls e st r es es₂ xs xs₂
+  pub took-bracket : {e : Effect} {st u r : State} {es es₁ es₂ xs xs₁ xs₂ : List ℕ} → opens (bracketIn ks (st .at)) ≡ true → Did e st u es es₁ xs xs₁ → Read ks ps ls true (getD ps (st .at) 0) u r es₁ es₂ xs₁ xs₂ → Took ks ps ls e st r es es₂ xs xs₂
   took-bracket {e} {st} {u} {r} {es} {es₁} {es₂} {xs} {xs₁} {xs₂} o d b =
       record {
         went = record {
@@ -103,79 +123,78 @@ module _ (ks ps ls : List ℕ) (even : length ps ≡ length ks) (flat : length l
         forward = omega (arith, d .moved, b .forward);
       }
 
-  -- no token is left, so the bracket stays open and gives nothing
-  pub bracket-none : (q : ℕ) (st : State) (es xs : List ℕ) → length ks ≤ st .at → Ready st → Bracketed ks ps ls q st st es es xs xs
-  unfolding walk
-  bracket-none q st es xs h ready =
-      let e = drop-none ks ps ls (st .at) h in
-      record {
-        went = record {
-          same = λ stk. ap (λ (l : List Token). walk (q ∷ stk) (view st es xs) l) e ∙ sym (ap (λ (l : List Token). walk stk (view st es xs) l) e);
-          ready = ready;
-        };
-        kept = kept-none st es xs;
-        forward = omega arith;
-      }
+  module _ (inside : Bool) (q : ℕ) where
+    pub within-none : (st : State) (es xs : List ℕ) → Ready st → Within ks ps ls inside q st st es es xs xs
+    within-none st es xs h = record { same = λ stk. refl; kept = kept-none st es xs; ready = h; forward = omega arith }
 
-  module _ (q : ℕ) {e : Effect} (st : State) (es xs : List ℕ) (h : st .at < length ks) (he : e ≡ insideIn ks ps ls xs st q) where
-    -- the token inside the bracket
-    inside : (stk : List ℕ) (c : Bool) → ends (bracketIn ks (st .at)) ≡ c → walk (q ∷ stk) (view st es xs) (drop (st .at) T) ≡ walk (enter (bracketIn ks (st .at)) (getD ps (st .at) 0) (cond c stk (q ∷ stk))) (applied e (view st es xs)) (drop (st .at + 1) T)
-    inside stk c o =
-        turned (q ∷ stk) st es xs h
-        ∙ (λ i. walk (enter (bracketIn ks (st .at)) (getD ps (st .at) 0) (cond (o i) stk (q ∷ stk))) (applied (sym he i) (view st es xs)) (drop (st .at + 1) T))
+    pub within-then : {st u r : State} {es es₁ es₂ xs xs₁ xs₂ : List ℕ} → Within ks ps ls inside q st u es es₁ xs xs₁ → Within ks ps ls inside q u r es₁ es₂ xs₁ xs₂ → Within ks ps ls inside q st r es es₂ xs xs₂
+    within-then a b =
+        record { same = λ stk. a .same stk ∙ b .same stk; kept = kept-then (a .kept) (b .kept); ready = b .ready; forward = omega (arith, a .forward, b .forward) }
 
-    -- it ends the bracket
-    pub bracket-ends : {r : State} {es′ xs′ : List ℕ} → ends (bracketIn ks (st .at)) ≡ true → Took ks ps ls e st r es es′ xs xs′ → Bracketed ks ps ls q st r es es′ xs xs′
-    bracket-ends o t =
+    -- no token is left: a bracket stays open, and gives nothing
+    pub read-none : {st r : State} {es es′ xs xs′ : List ℕ} → length ks ≤ r .at → Within ks ps ls inside q st r es es′ xs xs′ → Read ks ps ls inside q st r es es′ xs xs′
+    unfolding walk
+    read-none {st} {r} {es} {es′} {xs} {xs′} h w =
+        let e = drop-none ks ps ls (r .at) h in
         record {
-          went = record { same = λ stk. inside stk true o ∙ t .went .same stk; ready = t .went .ready };
-          kept = t .kept;
-          forward = omega (arith, t .forward);
+          went = record {
+            same = λ stk.
+                w .same stk
+                ∙ ap (λ (l : List Token). walk (stackBy inside q stk) (view r es′ xs′) l) e
+                ∙ sym (ap (λ (l : List Token). walk stk (view r es′ xs′) l) e);
+            ready = w .ready;
+          };
+          kept = w .kept;
+          forward = w .forward;
+          whole = λ _. h;
         }
 
-    -- it does not, and the bracket goes on
-    pub bracket-goes : {u r : State} {es₁ es₂ xs₁ xs₂ : List ℕ} → ends (bracketIn ks (st .at)) ≡ false → Took ks ps ls e st u es es₁ xs xs₁ → Bracketed ks ps ls q u r es₁ es₂ xs₁ xs₂ → Bracketed ks ps ls q st r es es₂ xs xs₂
-    bracket-goes o t r =
+    module _ {e : Effect} {b : Bracket} (st : State) (es xs : List ℕ) (h : st .at < length ks) (hb : b ≡ bracketBy inside ks (st .at)) (he : e ≡ effectIn ks ps ls xs st b q) where
+      -- one token and its effect
+      one : (stk : List ℕ) (c : Bool) → ends b ≡ c → walk (stackBy inside q stk) (view st es xs) (drop (st .at) T) ≡ walk (enter (bracketIn ks (st .at)) (getD ps (st .at) 0) (cond c stk (stackBy inside q stk))) (applied e (view st es xs)) (drop (st .at + 1) T)
+      one stk c o =
+          let k = typeOf (getD ks (st .at) 0) in
+          let f : effectAt (stackBy inside q stk) k (hereIn ps ls xs st) (aheadIn ks ps (st .at + 1)) ≡ e = effect-by inside q stk k (hereIn ps ls xs st) (aheadIn ks ps (st .at + 1)) ∙ sym (he ∙ ap (λ (d : Bracket). effectIn ks ps ls xs st d q) hb) in
+          let l : leave (bracketIn ks (st .at)) (stackBy inside q stk) ≡ cond c stk (stackBy inside q stk) = left inside q (bracketIn ks (st .at)) stk ∙ ap (λ (d : Bool). cond d stk (stackBy inside q stk)) (sym (ap ends hb) ∙ o) in
+          turned (stackBy inside q stk) st es xs h
+          ∙ (λ i. walk (enter (bracketIn ks (st .at)) (getD ps (st .at) 0) (l i)) (applied (f i) (view st es xs)) (drop (st .at + 1) T))
+
+      -- it ends the bracket
+      pub read-ends : {r : State} {es′ xs′ : List ℕ} → ends b ≡ true → Took ks ps ls e st r es es′ xs xs′ → Read ks ps ls inside q st r es es′ xs xs′
+      read-ends o t =
+          record {
+            went = record { same = λ stk. one stk true o ∙ t .went .same stk; ready = t .went .ready };
+            kept = t .kept;
+            forward = omega (arith, t .forward);
+            whole = none-ends inside (bracketIn ks (st .at)) (sym (ap ends hb) ∙ o);
+          }
+
+      -- it does not, and tokens are read on
+      pub within-one : {u : State} {es₁ xs₁ : List ℕ} → ends b ≡ false → Took ks ps ls e st u es es₁ xs xs₁ → Within ks ps ls inside q st u es es₁ xs xs₁
+      within-one o t =
+          record { same = λ stk. one stk false o ∙ t .went .same (stackBy inside q stk); kept = t .kept; ready = t .went .ready; forward = omega (arith, t .forward) }
+
+    -- what was read from there on, after tokens that ended nothing
+    pub read-then : {st u r : State} {es es₁ es₂ xs xs₁ xs₂ : List ℕ} → Within ks ps ls inside q st u es es₁ xs xs₁ → Read ks ps ls inside q u r es₁ es₂ xs₁ xs₂ → Read ks ps ls inside q st r es es₂ xs xs₂
+    read-then w b =
         record {
-          went = record { same = λ stk. inside stk false o ∙ t .went .same (q ∷ stk) ∙ r .went .same stk; ready = r .went .ready };
-          kept = kept-then (t .kept) (r .kept);
-          forward = omega (arith, t .forward, r .forward);
+          went = record { same = λ stk. w .same stk ∙ b .went .same stk; ready = b .went .ready };
+          kept = kept-then (w .kept) (b .kept);
+          forward = omega (arith, w .forward, b .forward);
+          whole = b .whole;
         }
-
-  -- a token was taken outside any bracket
-  pub advanced-one : {e : Effect} {st r : State} {es es′ xs xs′ : List ℕ} → st .at < length ks → e ≡ outsideIn ks ps ls xs st → Took ks ps ls e st r es es′ xs xs′ → Advanced ks ps ls st r es es′ xs xs′
-  advanced-one {e} {st} {r} {es} {es′} {xs} {xs′} h he t =
-      record {
-        same =
-            turned [] st es xs h
-            ∙ (λ i. walk (enter (bracketIn ks (st .at)) (getD ps (st .at) 0) (none-left (bracketIn ks (st .at)) i)) (applied (sym he i) (view st es xs)) (drop (st .at + 1) T))
-            ∙ t .went .same [];
-        kept = t .kept;
-        ready = t .went .ready;
-      }
-
-  pub advanced-none : (st : State) (es xs : List ℕ) → Ready st → Advanced ks ps ls st st es es xs xs
-  advanced-none st es xs h = record { same = refl; kept = kept-none st es xs; ready = h }
-
-  pub advanced-then : {st u r : State} {es es₁ es₂ xs xs₁ xs₂ : List ℕ} → Advanced ks ps ls st u es es₁ xs xs₁ → Advanced ks ps ls u r es₁ es₂ xs₁ xs₂ → Advanced ks ps ls st r es es₂ xs xs₂
-  advanced-then a c = record { same = a .same ∙ c .same; kept = kept-then (a .kept) (c .kept); ready = c .ready }
-
-  -- until none is left
-  pub whole : {st r : State} {es es′ xs xs′ : List ℕ} → length ks ≤ r .at → Advanced ks ps ls st r es es′ xs xs′ → Whole ks ps ls st r es es′ xs xs′
-  unfolding walk
-  whole {st} {r} {es} {es′} {xs} {xs′} h a =
-      record { same = sym (a .same ∙ ap (λ (l : List Token). walk [] (view r es′ xs′) l) (drop-none ks ps ls (r .at) h)); kept = a .kept; ready = a .ready }
 
   -- the root, and then all tokens behind it
-  pub parsed : {first second : Next} {m : RootModifier} {root : OptionalNote} {e : Effect} {u r : State} {es es₁ es₂ xs xs₁ xs₂ : List ℕ}
-      → first ≡ nextIn ks 0 → second ≡ nextIn ks 1 → m ≡ signIn second → root ≡ noteIn first m → e ≡ rootEffect root second
-      → Did e start u es es₁ xs xs₁ → Whole ks ps ls u r es₁ es₂ xs₁ xs₂
+  pub parsed : {first second : Next} {m : RootModifier} {root : OptionalNote} {u r : State} {es es₁ es₂ xs xs₂ : List ℕ}
+      → first ≡ nextIn ks 0 → second ≡ nextIn ks 1 → m ≡ signIn second → root ≡ noteIn first m
+      → Did (rootEffect root second) start u es es₁ xs xs → Read ks ps ls false 0 u r es₁ es₂ xs xs₂
       → Parsed T (record { root = root; errors = r .errors; exps = r .exps }) es es₂ xs xs₂
-  parsed {first} {second} {m} {root} {e} {u} {r} {es} {es₁} {es₂} {xs} {xs₁} {xs₂} hf hs hm hr he d w =
+  unfolding walk
+  parsed {first} {second} {m} {root} {u} {r} {es} {es₁} {es₂} {xs} {xs₂} hf hs hm hr d w =
       let ef : first ≡ nextAt T 0 = hf ∙ sym (next-is ks ps ls even flat 0) in
       let en : second ≡ nextAt T 1 = hs ∙ sym (next-is ks ps ls even flat 1) in
       let er : root ≡ rootOf T = hr ∙ (λ i. noteIn (ef i) ((hm ∙ ap signIn en) i)) in
-      let ee : e ≡ rootEffect (rootOf T) (nextAt T 1) = he ∙ (λ i. rootEffect (er i) (en i)) in
-      let v : view r es₂ xs₂ ≡ parseOf T = w .same ∙ sym (did-walk T [] d) ∙ ap (λ (f : Effect). walk [] (applied f blank) (drop 1 T)) ee in
+      let read : view r es₂ xs₂ ≡ walk [] (view u es₁ xs) (drop (u .at) T) = sym (w .went .same [] ∙ ap (λ (l : List Token). walk [] (view r es₂ xs₂) l) (drop-none ks ps ls (r .at) (w .whole refl))) in
+      let v : view r es₂ xs₂ ≡ parseOf T = read ∙ sym (did-walk T [] d) ∙ (λ i. walk [] (applied (rootEffect (er i) (en i)) blank) (drop 1 T)) in
       let k = kept-then (d .kept) (w .kept) in
-      record { root = er; errs = ap (λ (s : Parsing). s .errs) v; rest = k .rest; exps = ap (λ (s : Parsing). s .exps) v; others = k .others; few = w .ready .errs; fewer = w .ready .exps }
+      record { root = er; errs = ap (λ (s : Parsing). s .errs) v; rest = k .rest; exps = ap (λ (s : Parsing). s .exps) v; others = k .others; few = w .went .ready .errs; fewer = w .went .ready .exps }

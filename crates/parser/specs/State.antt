@@ -1,21 +1,26 @@
 -- The parser's state as values: what the code's struct and its lent arrays stand for, and what the code keeps true of them.
-use mathlib.Core.Bool.{false}
+use mathlib.Core.Bool.{Bool, true, false, cond}
 use mathlib.Core.List.{List, [], _∷_, _++_, map}
 use mathlib.Core.Path.{_≡_}
 use Prim.Native.Nat.{ℕ, _+_, _*_, _≤_, _<_}
+use lib.IntN.{pos}
 use lib.ListN.{length, take, drop, getD}
 use lib.Signed.{mag}
 use Rattle.expression.specs.Expression.{expOf}
 use Rattle.expression.specs.declared.expression.Exp.{Exp}
 use Rattle.step.specs.Bounds.{gainsCount, susBit}
 use Rattle.behind.specs.Next.{nextOf}
-use Rattle.step.specs.Step.{bracketKind, insideOf, stepOf}
+use Rattle.step.specs.Step.{bracketKind, insideOf}
+use Rattle.step.specs.declared.context.Context.the-variants as context
 use Rattle.step.specs.declared.effect.Effect.{Effect}
 use Rattle.step.specs.declared.effect.Here.{Here}
 use Rattle.behind.specs.declared.Ahead.{Ahead}
 use Rattle.behind.specs.declared.Next.{Next}
+use Rattle.step.specs.declared.step.Bracket.the-variants.{Other}
 use Rattle.step.specs.declared.step.Bracket.{Bracket}
 use Rattle.token.specs.Token.{Token, Ranged, rows, typeOf}
+use Rattle.token.specs.declared.TokenType.the-variants as type
+use Rattle.token.specs.declared.TokenType.{TokenType}
 use Rattle.parser.specs.Parser.{Parsing, applied, enter, lastSix, parseOf, rootOf, skipping, walk}
 use Rattle.parser.specs.declared.parser.Ast.{Ast}
 use Rattle.parser.specs.declared.state.State.{State}
@@ -43,12 +48,47 @@ abbrev pub hereIn : List ℕ → List ℕ → List ℕ → State → Here
 hereIn ps ls xs st =
     record { pos = getD ps (st .at) 0; len = getD ls (st .at) 0; count = st .count; context = st .context; six = lastSix false (expsOf (st .exps) xs) }
 
--- the effect of the token at st, outside any bracket, and inside the one that was opened at q
-abbrev pub outsideIn : List ℕ → List ℕ → List ℕ → List ℕ → State → Effect
-outsideIn ks ps ls xs st = stepOf (typeOf (getD ks (st .at) 0)) (hereIn ps ls xs st) (aheadIn ks ps (st .at + 1))
+-- what the token at i is to the bracket around it, if one is open; outside any bracket every token is Other
+abbrev pub bracketBy : Bool → List ℕ → ℕ → Bracket
+bracketBy inside ks i = cond inside (bracketIn ks i) Other
 
-abbrev pub insideIn : List ℕ → List ℕ → List ℕ → List ℕ → State → ℕ → Effect
-insideIn ks ps ls xs st q = insideOf (bracketIn ks (st .at)) q (typeOf (getD ks (st .at) 0)) (hereIn ps ls xs st) (aheadIn ks ps (st .at + 1))
+-- the open brackets: the one opened at q and those around it, or none
+abbrev pub stackBy : Bool → ℕ → List ℕ → List ℕ
+stackBy inside q stk = cond inside (q ∷ stk) []
+
+-- the effect of the token at st, which is b to the bracket opened at q
+abbrev pub effectIn : List ℕ → List ℕ → List ℕ → List ℕ → State → Bracket → ℕ → Effect
+effectIn ks ps ls xs st b q = insideOf b q (typeOf (getD ks (st .at) 0)) (hereIn ps ls xs st) (aheadIn ks ps (st .at + 1))
+
+-- does the effect of such a token depend on the tokens behind it?
+abbrev pub asksAhead : TokenType → Bool
+asksAhead (type.Note l) = false
+asksAhead type.Sharp = true
+asksAhead type.Flat = true
+asksAhead type.Aug = true
+asksAhead type.Dim = false
+asksAhead type.Dim7 = false
+asksAhead type.HalfDim = false
+asksAhead (type.Extension n) = false
+asksAhead type.Add = true
+asksAhead type.Omit = true
+asksAhead type.Alt = false
+asksAhead type.Sus = true
+asksAhead type.Minor = false
+asksAhead type.Hyphen = true
+asksAhead type.Maj = false
+asksAhead type.Maj7 = false
+asksAhead type.Slash = true
+asksAhead type.LParent = false
+asksAhead type.RParent = false
+asksAhead type.Comma = false
+asksAhead type.Bass = false
+asksAhead type.Illegal = false
+asksAhead type.Eof = false
+
+-- the parser's state before the first token
+abbrev pub start : State
+start = record { at = 0; count = pos 0; context = context.None; errors = 0; exps = 0 }
 
 -- every token that was taken gave at most one error, one expression and one bracket; a sus still owes its expression
 pub record Ready (st : State) : Type 0 where
@@ -115,23 +155,12 @@ pub record Took (ks ps ls : List ℕ) (e : Effect) (st r : State) (es es′ xs x
   pub kept : Kept st r es es′ xs xs′
   pub forward : st .at < r .at
 
--- the rest of the bracket that was opened at q was taken
-pub record Bracketed (ks ps ls : List ℕ) (q : ℕ) (st r : State) (es es′ xs xs′ : List ℕ) : Type 0 where
-  pub went : Went (rows ks ps ls) (λ stk. q ∷ stk) (view st es xs) (drop (st .at) (rows ks ps ls)) r es′ xs′
+-- tokens were read to the end of the bracket that was opened at q, or all of them where none is open
+pub record Read (ks ps ls : List ℕ) (inside : Bool) (q : ℕ) (st r : State) (es es′ xs xs′ : List ℕ) : Type 0 where
+  pub went : Went (rows ks ps ls) (stackBy inside q) (view st es xs) (drop (st .at) (rows ks ps ls)) r es′ xs′
   pub kept : Kept st r es es′ xs xs′
   pub forward : st .at ≤ r .at
-
--- tokens were taken outside any bracket
-pub record Advanced (ks ps ls : List ℕ) (st r : State) (es es′ xs xs′ : List ℕ) : Type 0 where
-  pub same : walk [] (view st es xs) (drop (st .at) (rows ks ps ls)) ≡ walk [] (view r es′ xs′) (drop (r .at) (rows ks ps ls))
-  pub kept : Kept st r es es′ xs xs′
-  pub ready : Ready r
-
--- all tokens from st on were taken
-pub record Whole (ks ps ls : List ℕ) (st r : State) (es es′ xs xs′ : List ℕ) : Type 0 where
-  pub same : view r es′ xs′ ≡ walk [] (view st es xs) (drop (st .at) (rows ks ps ls))
-  pub kept : Kept st r es es′ xs xs′
-  pub ready : Ready r
+  pub whole : inside ≡ false → length ks ≤ r .at
 
 -- the tokens were read: r and the lent lists hold what the definition says, and what lies behind it is untouched
 pub record Parsed (ts : List Token) (r : Ast) (es es′ xs xs′ : List ℕ) : Type 0 where

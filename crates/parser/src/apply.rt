@@ -14,7 +14,7 @@ use step::effect::Gains;
 use step::effect::OptionalError;
 
 // Writes the error behind the first n, if there is one, and answers how many there are.
-fn push_error(errs: &mut [u16], n: usize, e: OptionalError) -> usize
+pub(crate) fn push_error(errs: &mut [u16], n: usize, e: OptionalError) -> usize
     requires { ⌜ 4 * n + 4 ≤ length (now errs) ⌝ }
     ensures { λ r. ⌜ Stored n r (errorOf e) (now (errs .entry)) (now (errs .exit)) ⌝ }
 {

@@ -1,13 +1,15 @@
-// The walk over the tokens: the root, then each token by its effect. The bracket reader and the token step call each other.
+// The walk over the tokens: the root, then each token by its effect. `read_tokens`, which reads a bracket too, and `take_token` call each other.
+ghost use mathlib.Core.List.{List};
 ghost use mathlib.Core.Path.{_≡_};
-ghost use Prim.Native.Nat.{_≤_, _<_};
+ghost use Prim.Native.Nat.{ℕ, _≤_, _<_};
 ghost use lib.ListN.{length};
 ghost use Rattle.token.specs.Token.{rows};
 ghost use Rattle.parser.specs.Parser.{opens, ends, rootEffect};
-ghost use Rattle.parser.specs.State.{outsideIn, insideIn, bracketIn, Ready, Fits, Space, Tokens, Took, Bracketed, Advanced, Whole, Parsed};
+ghost use Rattle.parser.specs.State.{bracketIn, bracketBy, effectIn, Ready, Fits, Space, Tokens, start, Did, Took, Read, Parsed};
 use crate::apply::apply;
+use crate::apply::push_error;
 use crate::state::State;
-use crate::state::ahead_at;
+use crate::state::ahead_of;
 use crate::state::here_at;
 use crate::state::next_at;
 use behind::Next;
@@ -20,7 +22,6 @@ use step::effect::OptionalError;
 use step::step::Bracket;
 use step::step::bracket_kind;
 use step::step::process_inside;
-use step::step::process_token;
 use token::TokenType;
 
 // How many errors and expressions there are, and the root.
@@ -43,12 +44,11 @@ fn opens_at(kinds: &[u8], i: usize) -> bool
     }
 }
 
-// Does the token at i end the bracket around it?
-fn ends_at(kinds: &[u8], i: usize) -> bool
-    requires { ⌜ i < length (now kinds) ⌝ }
-    ensures { λ r. ⌜ r ≡ ends (bracketIn (now (kinds .entry)) i) ⌝ }
+// Does the token end the bracket around it?
+fn is_end(bracket: Bracket) -> bool
+    ensures { λ r. ⌜ r ≡ ends bracket ⌝ }
 {
-    match bracket_kind(TokenType::from_number(kinds[i])) {
+    match bracket {
         Bracket::Opens => false,
         Bracket::Closes => true,
         Bracket::Ends => true,
@@ -56,39 +56,38 @@ fn ends_at(kinds: &[u8], i: usize) -> bool
     }
 }
 
-// The effect of the token at st.at outside any bracket.
-fn effect_outside(kinds: &[u8], poss: &[u16], lens: &[u16], exps: &[u32], st: State) -> Effect
-    requires { ⌜ Tokens (now kinds) (now poss) (now lens) × (st .at < length (now kinds)) × Ready st × (257 ≤ length (now exps)) ⌝ }
-    ensures { λ r. ⌜ (r ≡ outsideIn (now (kinds .entry)) (now (poss .entry)) (now (lens .entry)) (now (exps .entry)) st) × Fits st r ⌝ }
+// What the token at i is to the bracket around it, if one is open.
+fn bracket_at(inside: bool, kinds: &[u8], i: usize) -> Bracket
+    requires { ⌜ i < length (now kinds) ⌝ }
+    ensures { λ r. ⌜ r ≡ bracketBy inside (now (kinds .entry)) i ⌝ }
 {
-    let at = st.at;
-    let kind = TokenType::from_number(kinds[at]);
-    process_token(
-        kind,
-        here_at(poss, lens, exps, st),
-        ahead_at(kinds, poss, at + 1),
-    )
+    if inside {
+        return bracket_kind(TokenType::from_number(kinds[i]));
+    }
+    Bracket::Other
 }
 
-// The effect of the token at st.at inside the bracket that was opened at `pos`.
-fn effect_inside(
+// The effect of the token at st.at, which is `bracket` to the bracket opened at `pos`.
+fn effect_at(
     kinds: &[u8],
     poss: &[u16],
     lens: &[u16],
     exps: &[u32],
     st: State,
+    bracket: Bracket,
     pos: u16,
 ) -> Effect
     requires { ⌜ Tokens (now kinds) (now poss) (now lens) × (st .at < length (now kinds)) × Ready st × (257 ≤ length (now exps)) ⌝ }
-    ensures { λ r. ⌜ (r ≡ insideIn (now (kinds .entry)) (now (poss .entry)) (now (lens .entry)) (now (exps .entry)) st pos) × Fits st r ⌝ }
+    ensures { λ r. ⌜ (r ≡ effectIn (now (kinds .entry)) (now (poss .entry)) (now (lens .entry)) (now (exps .entry)) st bracket pos) × Fits st r ⌝ }
 {
     let at = st.at;
     let kind = TokenType::from_number(kinds[at]);
     process_inside(
+        bracket,
         pos,
         kind,
         here_at(poss, lens, exps, st),
-        ahead_at(kinds, poss, at + 1),
+        ahead_of(kind, kinds, poss, at + 1),
     )
 }
 
@@ -108,67 +107,33 @@ fn take_token(
     let at = st.at;
     let u = apply(st, e, errs, exps);
     if opens_at(kinds, at) {
-        return lparen(kinds, poss, lens, u, poss[at], errs, exps);
+        return read_tokens(kinds, poss, lens, u, true, poss[at], errs, exps);
     }
     u
 }
 
-// The bracket that was opened at `pos` reads tokens to its closing sign.
-fn lparen(
-    kinds: &[u8],
-    poss: &[u16],
-    lens: &[u16],
-    st: State,
-    pos: u16,
-    errs: &mut [u16],
-    exps: &mut [u32],
-) -> State
-    requires { ⌜ Tokens (now kinds) (now poss) (now lens) × Ready st × Space (now errs) (now exps) ⌝ }
-    ensures { λ r. ⌜ Bracketed (now (kinds .entry)) (now (poss .entry)) (now (lens .entry)) pos st r (now (errs .entry)) (now (errs .exit)) (now (exps .entry)) (now (exps .exit)) ⌝ }
-{
-    let at = st.at;
-    if kinds.len() <= at {
-        return st;
-    }
-    let e = effect_inside(kinds, poss, lens, exps, st, pos);
-    let u = take_token(kinds, poss, lens, st, e, errs, exps);
-    if ends_at(kinds, at) {
-        return u;
-    }
-    lparen(kinds, poss, lens, u, pos, errs, exps)
-}
-
-// Takes the token at st.at outside any bracket.
-fn next_token(
-    kinds: &[u8],
-    poss: &[u16],
-    lens: &[u16],
-    st: State,
-    errs: &mut [u16],
-    exps: &mut [u32],
-) -> State
-    requires { ⌜ Tokens (now kinds) (now poss) (now lens) × (st .at < length (now kinds)) × Ready st × Space (now errs) (now exps) ⌝ }
-    ensures { λ r. ⌜ Advanced (now (kinds .entry)) (now (poss .entry)) (now (lens .entry)) st r (now (errs .entry)) (now (errs .exit)) (now (exps .entry)) (now (exps .exit)) × (st .at < r .at) ⌝ }
-{
-    let e = effect_outside(kinds, poss, lens, exps, st);
-    take_token(kinds, poss, lens, st, e, errs, exps)
-}
-
-// All tokens from st.at on.
+// Reads tokens from st.at on: to the closing sign of the bracket that was opened at `pos`, or all of them where none is open.
 fn read_tokens(
     kinds: &[u8],
     poss: &[u16],
     lens: &[u16],
     st: State,
+    inside: bool,
+    pos: u16,
     errs: &mut [u16],
     exps: &mut [u32],
 ) -> State
     requires { ⌜ Tokens (now kinds) (now poss) (now lens) × Ready st × Space (now errs) (now exps) ⌝ }
-    ensures { λ r. ⌜ Whole (now (kinds .entry)) (now (poss .entry)) (now (lens .entry)) st r (now (errs .entry)) (now (errs .exit)) (now (exps .entry)) (now (exps .exit)) ⌝ }
+    ensures { λ r. ⌜ Read (now (kinds .entry)) (now (poss .entry)) (now (lens .entry)) inside pos st r (now (errs .entry)) (now (errs .exit)) (now (exps .entry)) (now (exps .exit)) ⌝ }
 {
     let mut s = st;
     while s.at < kinds.len() {
-        s = next_token(kinds, poss, lens, s, errs, exps);
+        let bracket = bracket_at(inside, kinds, s.at);
+        let e = effect_at(kinds, poss, lens, exps, s, bracket, pos);
+        s = take_token(kinds, poss, lens, s, e, errs, exps);
+        if is_end(bracket) {
+            return s;
+        }
     }
     s
 }
@@ -198,6 +163,23 @@ fn root_effect(root: OptionalNote, next: Next) -> Effect
     }
 }
 
+// The state after the first token; that of any other is `apply`'s. Only kind 9 can be written.
+fn begin(root: OptionalNote, next: Next, errs: &mut [u16]) -> State
+    requires { ⌜ 4 ≤ length (now errs) ⌝ }
+    ensures { λ r. ⌜ ((xs : List ℕ) → Did (rootEffect root next) start r (now (errs .entry)) (now (errs .exit)) xs xs) ⌝ }
+{
+    let e = root_effect(root, next);
+    let context = e.context;
+    let error = e.error;
+    State {
+        at: 1 + e.taken,
+        count: e.count,
+        context,
+        errors: push_error(errs, 0, error),
+        exps: 0,
+    }
+}
+
 // Reads the tokens that three arrays of one length hold, and writes what is found from the beginning of the two lists on.
 pub fn parse(kinds: &[u8], poss: &[u16], lens: &[u16], errs: &mut [u16], exps: &mut [u32]) -> Ast
     requires { ⌜ Tokens (now kinds) (now poss) (now lens) × Space (now errs) (now exps) ⌝ }
@@ -205,15 +187,8 @@ pub fn parse(kinds: &[u8], poss: &[u16], lens: &[u16], errs: &mut [u16], exps: &
 {
     let second = next_at(kinds, 1);
     let root = next_at(kinds, 0).note(second.sign());
-    let start = State {
-        at: 0,
-        count: 0,
-        context: Context::None,
-        errors: 0,
-        exps: 0,
-    };
-    let st = apply(start, root_effect(root, second), errs, exps);
-    let end = read_tokens(kinds, poss, lens, st, errs, exps);
+    let st = begin(root, second, errs);
+    let end = read_tokens(kinds, poss, lens, st, false, 0, errs, exps);
     Ast {
         root,
         errors: end.errors,

@@ -1,12 +1,12 @@
 // The parser's state between tokens, and what the token step wants to know of it and of the tokens ahead.
-ghost use mathlib.Core.Bool.{false};
+ghost use mathlib.Core.Bool.{true, false};
 ghost use mathlib.Core.Path.{_≡_};
 ghost use Prim.Native.Nat.{_+_, _≤_, _<_};
 ghost use lib.ListN.{length, getD};
 ghost use lib.Signed.{mag};
 ghost use Rattle.expression.specs.Expression.{expOf};
 ghost use Rattle.parser.specs.Parser.{isSix, lastSix};
-ghost use Rattle.parser.specs.State.{nextIn, aheadIn, expsOf, hereIn};
+ghost use Rattle.parser.specs.State.{nextIn, aheadIn, asksAhead, expsOf, hereIn};
 use behind::Ahead;
 use behind::Next;
 use behind::next_of;
@@ -44,7 +44,7 @@ fn pos_at(poss: &[u16], i: usize) -> u16
 }
 
 // The three tokens from i on.
-pub(crate) fn ahead_at(kinds: &[u8], poss: &[u16], i: usize) -> Ahead
+fn ahead_at(kinds: &[u8], poss: &[u16], i: usize) -> Ahead
     requires { ⌜ i ≤ 300 ⌝ }
     ensures { λ r. ⌜ r ≡ aheadIn (now (kinds .entry)) (now (poss .entry)) i ⌝ }
 {
@@ -54,6 +54,40 @@ pub(crate) fn ahead_at(kinds: &[u8], poss: &[u16], i: usize) -> Ahead
         third: next_at(kinds, i + 2),
         pos: pos_at(poss, i),
         pos2: pos_at(poss, i + 1),
+    }
+}
+
+// Does the effect of such a token depend on the tokens behind it?
+fn asks_ahead(kind: TokenType) -> bool
+    ensures { λ r. ⌜ r ≡ asksAhead kind ⌝ }
+{
+    match kind {
+        TokenType::Sharp => true,
+        TokenType::Flat => true,
+        TokenType::Aug => true,
+        TokenType::Add => true,
+        TokenType::Omit => true,
+        TokenType::Sus => true,
+        TokenType::Hyphen => true,
+        TokenType::Slash => true,
+        _ => false,
+    }
+}
+
+// The three tokens from i on, for a token that asks for them; most do not, and looking takes time.
+pub(crate) fn ahead_of(kind: TokenType, kinds: &[u8], poss: &[u16], i: usize) -> Ahead
+    requires { ⌜ i ≤ 300 ⌝ }
+    ensures { λ r. ⌜ (asksAhead kind ≡ true → r ≡ aheadIn (now (kinds .entry)) (now (poss .entry)) i) ⌝ }
+{
+    if asks_ahead(kind) {
+        return ahead_at(kinds, poss, i);
+    }
+    Ahead {
+        first: Next::Other,
+        second: Next::Other,
+        third: Next::Other,
+        pos: 0,
+        pos2: 0,
     }
 }
 

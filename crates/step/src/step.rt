@@ -371,12 +371,12 @@ pub fn process_token(kind: TokenType, h: Here, a: Ahead) -> Effect
     }
 }
 
-// What a token does inside the bracket that was opened at `pos`.
-pub fn process_inside(pos: u16, kind: TokenType, h: Here, a: Ahead) -> Effect
+// What a token does that is `bracket` to the bracket opened at `pos`. Outside any bracket every token is Other.
+pub fn process_inside(bracket: Bracket, pos: u16, kind: TokenType, h: Here, a: Ahead) -> Effect
     requires { ⌜ (h .pos + h .len < 65535) × (mag (h .count) < 1000) ⌝ }
-    ensures { λ r. ⌜ r ≡ insideOf (bracketKind kind) pos kind h a ⌝ }
+    ensures { λ r. ⌜ r ≡ insideOf bracket pos kind h a ⌝ }
 {
-    match bracket_kind(kind) {
+    match bracket {
         Bracket::Closes => close(h),
         Bracket::Ends => fail(h, ParserError::MissingClosingParenthesis(pos), 0),
         Bracket::Opens => lparen(h).set_error(ParserError::NestedParenthesis(pos)),

@@ -1,5 +1,4 @@
 -- The root has an effect as any token has; the rest is the walk from there.
-use Rattle.parser.proofs.Effects.{fits-root, ready-start}
 use Rattle.parser.proofs.Walk.{parsed}
 use Rattle.parser.proofs.parser.parse.Statement.{statement}
 use borrow.Author.Needs.{needs}
@@ -18,14 +17,14 @@ sign-requires c κs = search needs
 note-requires : tie.Need-note-requires
 note-requires c κs = search needs
 
-root-effect-requires : tie.Need-root-effect-requires
-root-effect-requires c κs = search needs
-
-apply-requires : tie.Need-apply-requires
-apply-requires c κs = (ready-start, omega arith, fits-root (c .before .before .before .note .result) (c .before .before .before .before .before .before .next-at .result) (c .before .before .root-effect .ensures), record { errs = c .before .before .before .before .before .before .before .before .before .before .before .before .pre .1 .errs; exps = c .before .before .before .before .before .before .before .before .before .before .before .before .pre .1 .exps })
+begin-requires : tie.Need-begin-requires
+begin-requires c κs = omega (arith, c .before .before .before .before .before .before .before .before .before .before .pre .1 .errs)
 
 read-tokens-requires : tie.Need-read-tokens-requires
-read-tokens-requires c κs = let d = c .before .before .before .before .before .before .apply in (c .before .before .before .before .before .before .before .before .before .before .before .before .before .before .before .before .before .before .before .pre .0, d .ensures .ready, record { errs = omega (arith, c .before .before .before .before .before .before .before .before .before .before .before .before .before .before .before .before .before .before .before .pre .1 .errs, d .kept); exps = omega (arith, c .before .before .before .before .before .before .before .before .before .before .before .before .before .before .before .before .before .before .before .pre .1 .exps, d .kept) })
+read-tokens-requires c κs =
+    let s = c .before .before .before .before .before .before .before .before .before .before .before .before .before .before .before in
+    let d = c .before .before .before .before .begin in
+    (s .pre .0, d .ensures (s .args .exps .now) .ready, record { errs = omega (arith, s .pre .1 .errs, d .kept); exps = s .pre .1 .exps })
 
 same-length : tie.Need-same-length
 same-length c = search needs
@@ -35,9 +34,9 @@ same-length-2 c = search needs
 
 returns : tie.Need-returns
 returns c =
-    let s = c .before .before .before .before .before .before .before .before .before .before .before .before .before .before .before .before .before .before .before .before .before .before .before .before in
+    let s = c .before .before .before .before .before .before .before .before .before .before .before .before .before .before .before .before .before .before .before .before in
     let a = s .args in
-    parsed (a .kinds .now) (a .poss .now) (a .lens .now) (s .pre .0 .poss) (s .pre .0 .lens) (c .before .before .before .before .before .before .before .before .before .before .before .before .before .before .before .before .before .next-at2 .ensures) (c .before .before .before .before .before .before .before .before .before .before .before .before .before .before .before .before .before .before .next-at .ensures) (c .before .before .before .before .before .before .before .before .before .before .before .before .before .before .before .before .sign .ensures) (c .before .before .before .before .before .before .before .before .before .before .before .before .before .before .before .note .ensures) (c .before .before .before .before .before .before .before .before .before .before .before .before .before .before .root-effect .ensures) (c .before .before .before .before .before .before .before .before .before .before .before .apply .ensures) (c .before .before .before .before .read-tokens .ensures)
+    parsed (a .kinds .now) (a .poss .now) (a .lens .now) (s .pre .0 .poss) (s .pre .0 .lens) (c .before .before .before .before .before .before .before .before .before .before .before .before .before .next-at2 .ensures) (c .before .before .before .before .before .before .before .before .before .before .before .before .before .before .next-at .ensures) (c .before .before .before .before .before .before .before .before .before .before .before .before .sign .ensures) (c .before .before .before .before .before .before .before .before .before .before .before .note .ensures) (c .before .before .before .before .before .before .before .before .before .begin .ensures (a .exps .now)) (c .before .before .before .before .read-tokens .ensures)
 
 pub parse-spec : {M : Type 1} → statement M
 parse-spec =
@@ -47,8 +46,7 @@ parse-spec =
     next-at-requires-2
     sign-requires
     note-requires
-    root-effect-requires
-    apply-requires
+    begin-requires
     read-tokens-requires
     same-length
     same-length-2

@@ -4,9 +4,6 @@ use borrow.Author.Needs.{needs}
 use Rattle.step.proofs.step.process_inside.Statement.{statement}
 use Rattle.step.proofs.step.process_inside.Tie as tie
 
-bracket-kind-requires : tie.Need-bracket-kind-requires
-bracket-kind-requires c κs = search needs
-
 enum-told : tie.Need-enum-told
 enum-told c = search needs
 
@@ -35,22 +32,21 @@ process-token-requires : tie.Need-process-token-requires
 process-token-requires c κs = search needs
 
 returns : tie.Need-returns
-returns c = rw (c .close .ensures, ← c .before .before .before .bracket-kind .ensures, c .before .enum-told .given .1)
+returns c = rw (c .close .ensures, c .before .enum-told .given .1)
 
 returns-2 : tie.Need-returns-2
-returns-2 c = rw (c .fail .ensures, ← c .before .before .before .bracket-kind .ensures, c .before .enum-told2 .given .1)
+returns-2 c = rw (c .fail .ensures, c .before .enum-told2 .given .1)
 
 returns-3 : tie.Need-returns-3
-returns-3 c = rw (c .set-error .ensures, c .before .lparen .ensures, ← c .before .before .before .before .bracket-kind .ensures, c .before .before .enum-told3 .given .1)
+returns-3 c = rw (c .set-error .ensures, c .before .lparen .ensures, c .before .before .enum-told3 .given .1)
 
 returns-4 : tie.Need-returns-4
-returns-4 c = rw (c .process-token .ensures, ← c .before .before .before .bracket-kind .ensures, c .before .enum-told4 .given .1)
+returns-4 c = rw (c .process-token .ensures, c .before .enum-told4 .given .1)
 
 pub process-inside-spec : {M : Type 1} → statement M
 process-inside-spec =
     tie.close
     (tie.spec
-    bracket-kind-requires
     enum-told
     close-requires
     enum-told-2

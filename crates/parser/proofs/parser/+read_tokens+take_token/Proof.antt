@@ -1,0 +1,203 @@
+-- The loop of the bracket reader by the laws of the walk: tokens were taken, and the same brackets are open. Twice the tokens left falls
+-- from call to call, with one more for the bracket reader, which calls the token step before any token is taken.
+use mathlib.Core.Path.{_≡_, refl, sym, _∙_}
+use native.Mathlib.Omega.{arith}
+use borrow.Author.Needs.{needs}
+use lib.ListN.{length}
+use Rattle.parser.proofs.Walk.{Within, read-ends, read-none, read-then, took-alone, took-bracket, within-none, within-one, within-then}
+use Prim.Native.Nat.{ℕ, _+_, _*_, _-_, _<_}
+use borrow.Fn.Kinds.{In}
+use borrow.Fn.PlainCycle.{Measures, is, falls, and}
+use Rattle.parser.proofs.parser.read_tokens.Reads as read-tokens
+use Rattle.parser.proofs.parser.read_tokens.Kinds as read-tokens-kinds
+use Rattle.parser.proofs.parser.+read_tokens+take_token.Lts-read_tokens as read-tokens-lts
+use Rattle.parser.proofs.parser.take_token.Reads as take-token
+use Rattle.parser.proofs.parser.take_token.Kinds as take-token-kinds
+use Rattle.parser.proofs.parser.+read_tokens+take_token.Lts-take_token as take-token-lts
+use Rattle.parser.proofs.apply.apply.Reads as apply-reads
+use Rattle.parser.proofs.parser.bracket_at.Reads as bracket-at-reads
+use Rattle.parser.proofs.parser.effect_at.Reads as effect-at-reads
+use Rattle.parser.proofs.parser.is_end.Reads as is-end-reads
+use Rattle.parser.proofs.parser.opens_at.Reads as opens-at-reads
+use Rattle.parser.proofs.parser.+read_tokens+take_token.{statement}
+use Rattle.parser.proofs.parser.+read_tokens+take_token.Tie.{close}
+
+abbrev μ-read-tokens : Measures 5 read-tokens-kinds.ps ℕ
+μ-read-tokens κs a = 2 * (length (a .0 .now) - a .1 .1 .1 .0 .at) + 1
+
+abbrev μ-take-token : Measures 5 take-token-kinds.ps ℕ
+μ-take-token κs a = 2 * (length (a .0 .now) - a .1 .1 .1 .0 .at)
+
+abbrev read-tokens-at : ℕ → In 5 read-tokens-kinds.ps
+read-tokens-at t =
+    and 5 read-tokens-kinds.ps (is 5 read-tokens-kinds.ps μ-read-tokens t) read-tokens.Pre
+
+abbrev read-tokens-below : ℕ → In 5 read-tokens-kinds.ps
+read-tokens-below t =
+    and 5 read-tokens-kinds.ps (falls 5 read-tokens-kinds.ps _<_ μ-read-tokens t) read-tokens.Pre
+
+abbrev take-token-at : ℕ → In 5 take-token-kinds.ps
+take-token-at t =
+    and 5 take-token-kinds.ps (is 5 take-token-kinds.ps μ-take-token t) take-token.Pre
+
+abbrev take-token-below : ℕ → In 5 take-token-kinds.ps
+take-token-below t =
+    and 5 take-token-kinds.ps (falls 5 take-token-kinds.ps _<_ μ-take-token t) take-token.Pre
+
+-- what the calls in `read_tokens` ask and give, below the measure t
+abbrev read-tokens-claims : ℕ → read-tokens-lts.Claims
+read-tokens-claims t = (bracket-at-reads.Asked, bracket-at-reads.Learnt, effect-at-reads.Asked, effect-at-reads.Learnt, take-token-below t, take-token.Post, is-end-reads.Asked, is-end-reads.Learnt)
+
+-- and those in `take_token`
+abbrev take-token-claims : ℕ → take-token-lts.Claims
+take-token-claims t = (apply-reads.Asked, apply-reads.Learnt, opens-at-reads.Asked, opens-at-reads.Learnt, read-tokens-below t, read-tokens.Post)
+
+abbrev Inv : read-tokens-lts.InvT-loop
+Inv kinds poss lens inside pos errs₀ exps₀ s₀ errs exps s =
+    Within kinds poss lens inside pos s₀ s errs₀ errs exps₀ exps × (length errs ≡ length errs₀) × (length exps ≡ length exps₀)
+
+abbrev μ-loop : read-tokens-lts.MeasureT-loop
+μ-loop kinds poss lens inside pos errs₀ exps₀ s₀ errs exps s = length kinds - s .at
+
+read-tokens-loop-holds : (t : ℕ) → read-tokens-lts.Need-loop-holds (read-tokens-claims t) (read-tokens-at t) read-tokens.Post Inv μ-loop
+read-tokens-loop-holds t c =
+    let s = c .before .before .before .before .before in
+    let a = s .args in
+    (within-none (a .kinds .now) (a .poss .now) (a .lens .now) (s .pre .1 .0 .poss) (s .pre .1 .0 .lens) (a .inside) (a .pos) (a .st) (a .errs .now) (a .exps .now) (s .pre .1 .1), refl, refl)
+
+read-tokens-bracket-at-requires : (t : ℕ) → read-tokens-lts.Need-bracket-at-requires (read-tokens-claims t) (read-tokens-at t) read-tokens.Post Inv μ-loop
+read-tokens-bracket-at-requires t c κs = c .if1 .taken
+
+read-tokens-effect-at-requires : (t : ℕ) → read-tokens-lts.Need-effect-at-requires (read-tokens-claims t) (read-tokens-at t) read-tokens.Post Inv μ-loop
+read-tokens-effect-at-requires t c κs =
+    let s = c .before .before .before .before .before .before .before .before .before .before in
+    let i = c .before .before .before .before .loop .inv in
+    (s .pre .1 .0, c .before .before .if1 .taken, i .0 .ready, omega (arith, s .pre .1 .2 .exps, i .2))
+
+read-tokens-take-token-requires : (t : ℕ) → read-tokens-lts.Need-take-token-requires (read-tokens-claims t) (read-tokens-at t) read-tokens.Post Inv μ-loop
+read-tokens-take-token-requires t c κs =
+    let s = c .before .before .before .before .before .before .before .before .before .before .before .before .before in
+    let i = c .before .before .before .before .before .before .before .loop .inv in
+    (omega (arith, s .pre .0, i .0 .forward), (s .pre .1 .0, c .before .before .before .before .before .if1 .taken, i .0 .ready, c .before .before .effect-at .ensures .1, record { errs = omega (arith, s .pre .1 .2 .errs, i .1); exps = omega (arith, s .pre .1 .2 .exps, i .2) }))
+
+read-tokens-is-end-requires : (t : ℕ) → read-tokens-lts.Need-is-end-requires (read-tokens-claims t) (read-tokens-at t) read-tokens.Post Inv μ-loop
+read-tokens-is-end-requires t c κs = search needs
+
+read-tokens-same-length : (t : ℕ) → read-tokens-lts.Need-same-length (read-tokens-claims t) (read-tokens-at t) read-tokens.Post Inv μ-loop
+read-tokens-same-length t c = search needs
+
+read-tokens-same-length-2 : (t : ℕ) → read-tokens-lts.Need-same-length-2 (read-tokens-claims t) (read-tokens-at t) read-tokens.Post Inv μ-loop
+read-tokens-same-length-2 t c = search needs
+
+read-tokens-returns : (t : ℕ) → read-tokens-lts.Need-returns (read-tokens-claims t) (read-tokens-at t) read-tokens.Post Inv μ-loop
+read-tokens-returns t c =
+    let s = c .before .before .before .before .before .before .before .before .before .before .before .before .before .before .before .before .before .before .before .before in
+    let a = s .args in
+    let l = c .before .before .before .before .before .before .before .before .before .before .before .before .before .before .loop in
+    read-then (a .kinds .now) (a .poss .now) (a .lens .now) (s .pre .1 .0 .poss) (s .pre .1 .0 .lens) (a .inside) (a .pos) (l .inv .0) (read-ends (a .kinds .now) (a .poss .now) (a .lens .now) (s .pre .1 .0 .poss) (s .pre .1 .0 .lens) (a .inside) (a .pos) (l .s) (l .errs) (l .exps) (c .before .before .before .before .before .before .before .before .before .before .before .before .if1 .taken) (c .before .before .before .before .before .before .before .before .before .before .before .bracket-at .ensures) (c .before .before .before .before .before .before .before .before .before .effect-at .ensures .0) (sym (c .before .is-end .ensures) ∙ c .if2 .taken) (c .before .before .before .before .before .before .take-token .ensures))
+
+read-tokens-loop-less : (t : ℕ) → read-tokens-lts.Need-loop-less (read-tokens-claims t) (read-tokens-at t) read-tokens.Post Inv μ-loop
+read-tokens-loop-less t c = omega (arith, c .before .before .before .before .before .before .take-token .ensures .forward, c .before .before .before .before .before .before .before .before .before .before .before .before .if1 .taken)
+
+read-tokens-loop-again : (t : ℕ) → read-tokens-lts.Need-loop-again (read-tokens-claims t) (read-tokens-at t) read-tokens.Post Inv μ-loop
+read-tokens-loop-again t c =
+    let s = c .before .before .before .before .before .before .before .before .before .before .before .before .before .before .before .before .before .before .before .before in
+    let a = s .args in
+    let l = c .before .before .before .before .before .before .before .before .before .before .before .before .before .before .loop in
+    let t = c .before .before .before .before .before .before .take-token in
+    (within-then (a .kinds .now) (a .poss .now) (a .lens .now) (s .pre .1 .0 .poss) (s .pre .1 .0 .lens) (a .inside) (a .pos) (l .inv .0) (within-one (a .kinds .now) (a .poss .now) (a .lens .now) (s .pre .1 .0 .poss) (s .pre .1 .0 .lens) (a .inside) (a .pos) (l .s) (l .errs) (l .exps) (c .before .before .before .before .before .before .before .before .before .before .before .before .if1 .taken) (c .before .before .before .before .before .before .before .before .before .before .before .bracket-at .ensures) (c .before .before .before .before .before .before .before .before .before .effect-at .ensures .0) (sym (c .before .is-end .ensures) ∙ c .if2 .left) (t .ensures)), omega (arith, l .inv .1, t .kept), omega (arith, l .inv .2, t .kept))
+
+read-tokens-same-length-3 : (t : ℕ) → read-tokens-lts.Need-same-length-3 (read-tokens-claims t) (read-tokens-at t) read-tokens.Post Inv μ-loop
+read-tokens-same-length-3 t c = search needs
+
+read-tokens-same-length-4 : (t : ℕ) → read-tokens-lts.Need-same-length-4 (read-tokens-claims t) (read-tokens-at t) read-tokens.Post Inv μ-loop
+read-tokens-same-length-4 t c = search needs
+
+read-tokens-returns-2 : (t : ℕ) → read-tokens-lts.Need-returns-2 (read-tokens-claims t) (read-tokens-at t) read-tokens.Post Inv μ-loop
+read-tokens-returns-2 t c =
+    let s = c .before .before .before .before .before .before .before .before in
+    let a = s .args in
+    read-none (a .kinds .now) (a .poss .now) (a .lens .now) (s .pre .1 .0 .poss) (s .pre .1 .0 .lens) (a .inside) (a .pos) (c .if1 .left) (c .before .before .loop .inv .0)
+
+take-token-apply-requires : (t : ℕ) → take-token-lts.Need-apply-requires (take-token-claims t) (take-token-at t) take-token.Post
+take-token-apply-requires t c κs =
+    let s = c .before .before .before .before .before .before .before in
+    let a = s .args in
+    (s .pre .1 .2, omega (arith, s .pre .1 .0 .few, s .pre .1 .1), s .pre .1 .3, s .pre .1 .4)
+
+take-token-opens-at-requires : (t : ℕ) → take-token-lts.Need-opens-at-requires (take-token-claims t) (take-token-at t) take-token.Post
+take-token-opens-at-requires t c κs = c .before .before .before .before .before .before .before .before .before .before .before .before .pre .1 .1
+
+take-token-mul-read-tokens : (t : ℕ) → take-token-lts.Need-mul-read-tokens (take-token-claims t) (take-token-at t) take-token.Post
+take-token-mul-read-tokens t c = search needs
+
+take-token-shared-slice-read-read-tokens : (t : ℕ) → take-token-lts.Need-shared-slice-read-read-tokens (take-token-claims t) (take-token-at t) take-token.Post
+take-token-shared-slice-read-read-tokens t c =
+    let s = c .before .before .before .before .before .before .before .before .before .before .before .before .before .before .before in
+    let a = s .args in
+    omega (arith, s .pre .1 .0 .poss, s .pre .1 .1)
+
+take-token-read-tokens-requires : (t : ℕ) → take-token-lts.Need-read-tokens-requires (take-token-claims t) (take-token-at t) take-token.Post
+take-token-read-tokens-requires t c κs =
+    let s = c .before .before .before .before .before .before .before .before .before .before .before .before .before .before .before .before .before in
+    let a = s .args in
+    let d = c .before .before .before .before .before .before .before .before .before .apply in
+    (omega (arith, s .pre .0, d .ensures .moved, s .pre .1 .1), (s .pre .1 .0, d .ensures .ready, record { errs = omega (arith, s .pre .1 .4 .errs, d .kept); exps = omega (arith, s .pre .1 .4 .exps, d .kept) }))
+
+take-token-same-length : (t : ℕ) → take-token-lts.Need-same-length (take-token-claims t) (take-token-at t) take-token.Post
+take-token-same-length t c = search needs
+
+take-token-same-length-2 : (t : ℕ) → take-token-lts.Need-same-length-2 (take-token-claims t) (take-token-at t) take-token.Post
+take-token-same-length-2 t c = search needs
+
+take-token-returns : (t : ℕ) → take-token-lts.Need-returns (take-token-claims t) (take-token-at t) take-token.Post
+take-token-returns t c =
+    let s = c .before .before .before .before .before .before .before .before .before .before .before .before .before .before .before .before .before .before .before .before .before .before in
+    let a = s .args in
+    took-bracket (a .kinds .now) (a .poss .now) (a .lens .now) (s .pre .1 .0 .poss) (s .pre .1 .0 .lens) (sym (c .before .before .before .before .before .before .before .before .before .opens-at .ensures) ∙ c .before .before .before .before .before .before .before .before .if1 .taken) (c .before .before .before .before .before .before .before .before .before .before .before .before .before .before .apply .ensures) (c .before .before .before .before .read-tokens .ensures)
+
+take-token-same-length-3 : (t : ℕ) → take-token-lts.Need-same-length-3 (take-token-claims t) (take-token-at t) take-token.Post
+take-token-same-length-3 t c = search needs
+
+take-token-same-length-4 : (t : ℕ) → take-token-lts.Need-same-length-4 (take-token-claims t) (take-token-at t) take-token.Post
+take-token-same-length-4 t c = search needs
+
+take-token-returns-2 : (t : ℕ) → take-token-lts.Need-returns-2 (take-token-claims t) (take-token-at t) take-token.Post
+take-token-returns-2 t c =
+    let s = c .before .before .before .before .before .before .before .before .before .before .before .before .before .before in
+    let a = s .args in
+    took-alone (a .kinds .now) (a .poss .now) (a .lens .now) (s .pre .1 .0 .poss) (s .pre .1 .0 .lens) (sym (c .before .opens-at .ensures) ∙ c .if1 .left) (c .before .before .before .before .before .before .apply .ensures)
+
+pub +read-tokens+take-token-spec : {M : Type 1} → statement M
++read-tokens+take-token-spec = close μ-read-tokens μ-take-token (λ t. read-tokens-lts.spec (read-tokens-claims t)
+    (read-tokens-at t)
+    read-tokens.Post
+    Inv
+    μ-loop
+    (read-tokens-loop-holds t)
+    (read-tokens-bracket-at-requires t)
+    (read-tokens-effect-at-requires t)
+    (read-tokens-take-token-requires t)
+    (read-tokens-is-end-requires t)
+    (read-tokens-same-length t)
+    (read-tokens-same-length-2 t)
+    (read-tokens-returns t)
+    (read-tokens-loop-less t)
+    (read-tokens-loop-again t)
+    (read-tokens-same-length-3 t)
+    (read-tokens-same-length-4 t)
+    (read-tokens-returns-2 t))
+    λ t. take-token-lts.spec (take-token-claims t)
+    (take-token-at t)
+    take-token.Post
+    (take-token-apply-requires t)
+    (take-token-opens-at-requires t)
+    (take-token-mul-read-tokens t)
+    (take-token-shared-slice-read-read-tokens t)
+    (take-token-read-tokens-requires t)
+    (take-token-same-length t)
+    (take-token-same-length-2 t)
+    (take-token-returns t)
+    (take-token-same-length-3 t)
+    (take-token-same-length-4 t)
+    (take-token-returns-2 t)
