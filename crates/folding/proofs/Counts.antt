@@ -61,7 +61,7 @@ one-some : (b : Bool) → 0 < one b → b ≡ true
 one-some true h = refl
 one-some false h = absurd (omega arith)
 
-both-not : (b : Bool) → (b && false) ≡ false
+pub both-not : (b : Bool) → (b && false) ≡ false
 both-not true = refl
 both-not false = refl
 

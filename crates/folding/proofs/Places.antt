@@ -44,16 +44,20 @@ module _ (ks ps ls : List ℕ) (w : ℕ) (room : Room w ks ps ls) where
   pub kind-at : (j : ℕ) → j < w → at (rows ks ps ls) j .kind ≡ getD ks j 0
   kind-at j h = ap (λ (x : Token). x .kind) (rows-at ks ps ls j (omega arith))
 
+  -- what is not found is not there
+  pub latest-none : {k e : ℕ} → Latest k ks w e → e ≡ 0 → count k (take w (rows ks ps ls)) ≡ 0
+  latest-none {k} {e} L z = count-none k (take w (rows ks ps ls)) (λ i h m. L .after i (omega arith) (within i h) (sym (kind-at i (within i h)) ∙ ap (λ (x : Token). x .kind) (sym (getD-take w (rows ks ps ls) i (token 0 0 0) (within i h))) ∙ m))
+    where
+      within : (i : ℕ) → i < length (take w (rows ks ps ls)) → i < w
+      within i h = let l : length (take w (rows ks ps ls)) ≡ w = length-take-le w (rows ks ps ls) (rows-room ks ps ls w room) in omega arith
+
   module _ {k waiting e : ℕ} (L : Latest k ks w e) (counted : waiting ≡ count k (take w (rows ks ps ls))) (some : waiting ≡ 0 → ⊥) where
     -- a token that is counted is found
     pub latest-some : 0 < e
     latest-some = elim (decLe 1 e) [
       | yes h ↦ h
-      | no n ↦ absurd (some (counted ∙ count-none k (take w (rows ks ps ls)) (λ i h m. L .after i (omega arith) (within i h) (sym (kind-at i (within i h)) ∙ ap (λ (x : Token). x .kind) (sym (getD-take w (rows ks ps ls) i (token 0 0 0) (within i h))) ∙ m))))
+      | no n ↦ absurd (some (counted ∙ latest-none L (omega arith)))
     ]
-      where
-        within : (i : ℕ) → i < length (take w (rows ks ps ls)) → i < w
-        within i h = let l : length (take w (rows ks ps ls)) ≡ w = length-take-le w (rows ks ps ls) (rows-room ks ps ls w room) in omega arith
 
     pub joined-latest : {r i : ℕ} {R′ : List Token} → R′ ≡ set (rows ks ps ls) (e - 1) (paired r (at (rows ks ps ls) (e - 1)) (at (rows ks ps ls) i)) → Joined k r i waiting w w (rows ks ps ls) R′
     joined-latest s =

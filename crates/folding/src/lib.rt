@@ -220,12 +220,15 @@ fn concat_maj7(kinds: &mut [u8], poss: &mut [u16], lens: &mut [u16], n: usize) -
     w
 }
 
-// Makes of the lexer's n tokens those that the parser reads; their number is returned.
+// Makes of the lexer's n tokens those that the parser reads; their number is returned. Without a 7 nothing changes.
 pub fn pre_process(kinds: &mut [u8], poss: &mut [u16], lens: &mut [u16], n: usize) -> usize
     requires { ⌜ Room n (now kinds) (now poss) (now lens) × Short n (rows (now kinds) (now poss) (now lens)) ⌝ }
     ensures { λ e. ⌜ (e ≤ n) × (take e (rows (now (kinds .exit)) (now (poss .exit)) (now (lens .exit))) ≡ preProcess (take n (rows (now (kinds .entry)) (now (poss .entry)) (now (lens .entry))))) ⌝ }
     ensures { λ _. ⌜ drop n (rows (now (kinds .exit)) (now (poss .exit)) (now (lens .exit))) ≡ drop n (rows (now (kinds .entry)) (now (poss .entry)) (now (lens .entry))) ⌝ }
 {
+    if latest(kinds, n, SEVEN) == 0 {
+        return n;
+    }
     let a = concat_maj7(kinds, poss, lens, n);
     let b = fold_7(kinds, poss, lens, a, DIM, DIM7);
     fold_7(kinds, poss, lens, b, MAJ, MAJ7)
