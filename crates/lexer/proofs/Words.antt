@@ -1,14 +1,14 @@
 -- The word list: the lent tables hold it row by row, and one turn of each loop over it is a step of the definition.
 -- Assumes nothing.
 use mathlib.Core.Bool.{Bool, true, false, _&&_}
-use mathlib.Core.List.{List, [], _∷_, _++_, map}
+use mathlib.Core.List.{List, [], _∷_, map}
 use mathlib.Core.Path.{_≡_, refl, ap, _∙_}
 use Prim.Native.Nat.{ℕ, zero, suc, _+_, _≤_, _<_}
 use native.Mathlib.Numerals.{add-one}
 use native.Mathlib.Omega.{arith}
 use lib.Dec.{T, eqb, leb, leb→le}
-use lib.ListN.{length, getD, drop, replicate, drop-of-length-le}
-use lib.Seq.{drop-cons, getD-take}
+use lib.ListN.{length, getD, drop, drop-of-length-le, List·getD-append}
+use lib.Seq.{drop-cons}
 use Rattle.utf8.specs.Utf8.{begins}
 use Rattle.lexer.specs.State.{padded, wordAt}
 use Rattle.lexer.specs.Words.{Word, word, words, better, longestOf}
@@ -18,16 +18,6 @@ at-map : {A : Type 0} (f : Word → A) (l : List Word) (i : ℕ) (d : Word) (e :
 at-map f [] i d e h = absurd (omega arith)
 at-map f (w ∷ l) zero d e h = refl
 at-map f (w ∷ l) (suc i) d e h = at-map f l i d e (omega arith)
-
-zeros : (n j : ℕ) → _≡_ {A = ℕ} (getD (replicate n 0) j 0) 0
-zeros zero j = refl
-zeros (suc n) zero = refl
-zeros (suc n) (suc j) = zeros n j
-
-before-zeros : (l : List ℕ) (n j : ℕ) → getD (l ++ replicate n 0) j 0 ≡ getD l j 0
-before-zeros [] n j = zeros n j
-before-zeros (x ∷ l) n zero = refl
-before-zeros (x ∷ l) n (suc j) = before-zeros l n j
 
 fits : List Word → Bool
 fits [] = true
@@ -63,11 +53,11 @@ module _ (i : ℕ) (h : i < 55) where
   pub word-fits : length (wordAt i .text) ≤ 10
   word-fits = fits-at words words-fit i (word [] 0) in-list
 
-  pub letter-is : (j : ℕ) → j < 10 → getD (getD (map padded words) i []) j 0 ≡ getD (wordAt i .text) j 0
+  -- the letters of a word come first in its row
+  pub letter-is : (j : ℕ) → j < length (wordAt i .text) → getD (getD (map padded words) i []) j 0 ≡ getD (wordAt i .text) j 0
   letter-is j k =
       ap (λ l. getD l j 0) (at-map padded words i (word [] 0) [] in-list)
-      ∙ getD-take 10 (wordAt i .text ++ replicate 10 0) j 0 k
-      ∙ before-zeros (wordAt i .text) 10 j
+      ∙ List·getD-append (wordAt i .text) _ 0 j k
 
   pub size-is : getD (map (λ w. length (w .text)) words) i 0 ≡ length (wordAt i .text)
   size-is = at-map (λ w. length (w .text)) words i (word [] 0) 0 in-list

@@ -4,7 +4,7 @@ use mathlib.Core.List.{List, [], _∷_, _++_, map}
 use mathlib.Core.Path.{_≡_}
 use Prim.Native.Nat.{ℕ, suc, _+_, _≤_}
 use lib.Dec.{eqb}
-use lib.ListN.{length, take, drop, replicate, getD}
+use lib.ListN.{length, take, drop, getD}
 use lib.Seq.{slice}
 use Rattle.token.specs.Token.{Token, token, Ranged}
 use Rattle.lexer.specs.Lexer.{illegal, lex, signPos, tokensOf}
@@ -14,9 +14,9 @@ use Rattle.lexer.specs.declared.Head.{Head}
 use Rattle.lexer.specs.declared.Plan.{Plan}
 use Rattle.lexer.specs.declared.Scan.{Scan}
 
--- "words as rows of ten bytes with a length": a word's letters and zeros up to ten
+-- "words as rows of ten bytes with a length": a word's letters, and behind them the numbers of the places up to ten
 abbrev pub padded : Word → List ℕ
-padded w = take 10 (w .text ++ replicate 10 0)
+padded w = w .text ++ drop (length (w .text)) (0 ∷ 1 ∷ 2 ∷ 3 ∷ 4 ∷ 5 ∷ 6 ∷ 7 ∷ 8 ∷ 9 ∷ [])
 
 -- the lent tables hold the word list
 pub record Tables (ws : List (List ℕ)) (ns ks : List ℕ) : Type 0 where

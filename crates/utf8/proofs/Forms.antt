@@ -5,10 +5,11 @@ use mathlib.Core.Bool.{Bool, true, false, not, _&&_, cond}
 use mathlib.Core.List.{List, [], _∷_, _++_}
 use mathlib.Core.Path.{_≡_, refl, sym, ap, _∙_, subst}
 use Prim.Native.Nat.{ℕ, _+_, _*_, _-_, _/_, _%_, _≤_, _<_}
-use native.Mathlib.Nat.{div-div-eq-div-mul}
+use native.Mathlib.Nat.{div-div-eq-div-mul, le-of-eq}
 use native.Mathlib.Omega.{arith}
 use lib.Dec.{T}
-use lib.ListN.{length, getD, drop, List·getD-append}
+use lib.ListN.{length, getD, take, drop, length-drop, List·getD-append}
+use lib.Seq.{take-all, drop-cons}
 use borrow.Author.Tests.{lt-ltb, le-ltb, not-true}
 use Rattle.utf8.specs.Utf8.{isScalar, encode, begins, bits, charOf}
 use Rattle.utf8.specs.declared.Found.the-variants.{Char, Bad, End}
@@ -157,3 +158,11 @@ pub empty-end : (s : List ℕ) → length s ≡ 0 → charOf s ≡ End
 unfolding charOf
 empty-end [] e = refl
 empty-end (x ∷ s) e = absurd (omega arith)
+
+-- the part of a text from a position on: what is lent there, and its first byte
+module _ (s : List ℕ) (i : ℕ) where
+  pub part-is : take (length s - i) (drop i s) ≡ drop i s
+  part-is = take-all _ _ (le-of-eq (length-drop i s))
+
+  pub part-first : i < length s → (a : ℕ) → a ≡ getD s i 0 → 128 ≤ a → (0 < length (take (length s - i) (drop i s))) × (a ≡ getD (take (length s - i) (drop i s)) 0 0) × (128 ≤ a)
+  part-first l a e h = rw part-is (rw (drop-cons s i 0 l) (omega arith, e, h))

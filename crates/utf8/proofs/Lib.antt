@@ -1,2 +1,3 @@
 pub mod Laws
 mod Forms
+mod Packed

@@ -3,6 +3,7 @@ ghost use mathlib.Core.Bool.{true};
 ghost use mathlib.Core.Path.{_≡_};
 ghost use Prim.Native.Nat.{_+_, _<_, _≤_};
 ghost use lib.ListN.{length, getD};
+ghost use Rattle.utf8.specs.State.{unpacked, lengthOf};
 ghost use Rattle.utf8.specs.Utf8.{charOf, charAt, wellFormed};
 
 // What stands at a position: a character with its code and its length in bytes, bytes that begin no character, or nothing.
@@ -41,83 +42,80 @@ fn six_bits(s: &[u8], i: usize) -> u32
     wide(s[i]) - 128
 }
 
+// A character goes from here to its callers as one number, eight times its code and its length, or 0 for none: an enum with values
+// would go through memory.
+
 // 110xxxxx 10xxxxxx, from 80 hexadecimal on. Its first byte is a.
-fn two_bytes(s: &[u8], a: u32) -> Found
+fn two_bytes(s: &[u8], a: u32) -> u32
     requires { ⌜ (0 < length (now s)) × (a ≡ getD (now s) 0 0) × (192 ≤ a) × (a < 224) ⌝ }
-    ensures { λ r. ⌜ r ≡ charOf (now (s .entry)) ⌝ }
+    ensures { λ r. ⌜ unpacked r ≡ charOf (now (s .entry)) ⌝ }
 {
     if !continued(s, 1) {
-        return Found::Bad;
+        return 0;
     }
     let c = (a - 192) * 64 + six_bits(s, 1);
     if c < 128 {
-        return Found::Bad;
+        return 0;
     }
-    Found::Char(c, 2)
+    c * 8 + 2
 }
 
 // 1110xxxx 10xxxxxx 10xxxxxx, from 800 hexadecimal on and no surrogate.
-fn three_bytes(s: &[u8], a: u32) -> Found
+fn three_bytes(s: &[u8], a: u32) -> u32
     requires { ⌜ (0 < length (now s)) × (a ≡ getD (now s) 0 0) × (224 ≤ a) × (a < 240) ⌝ }
-    ensures { λ r. ⌜ r ≡ charOf (now (s .entry)) ⌝ }
+    ensures { λ r. ⌜ unpacked r ≡ charOf (now (s .entry)) ⌝ }
 {
     if !continued(s, 1) {
-        return Found::Bad;
+        return 0;
     }
     if !continued(s, 2) {
-        return Found::Bad;
+        return 0;
     }
     let c = (a - 224) * 4096 + six_bits(s, 1) * 64 + six_bits(s, 2);
     if c < 2048 {
-        return Found::Bad;
+        return 0;
     }
     if c < 55296 {
-        return Found::Char(c, 3);
+        return c * 8 + 3;
     }
     if c < 57344 {
-        return Found::Bad;
+        return 0;
     }
-    Found::Char(c, 3)
+    c * 8 + 3
 }
 
 // 11110xxx 10xxxxxx 10xxxxxx 10xxxxxx, from 10000 to 10FFFF hexadecimal.
-fn four_bytes(s: &[u8], a: u32) -> Found
+fn four_bytes(s: &[u8], a: u32) -> u32
     requires { ⌜ (0 < length (now s)) × (a ≡ getD (now s) 0 0) × (240 ≤ a) × (a < 248) ⌝ }
-    ensures { λ r. ⌜ r ≡ charOf (now (s .entry)) ⌝ }
+    ensures { λ r. ⌜ unpacked r ≡ charOf (now (s .entry)) ⌝ }
 {
     if !continued(s, 1) {
-        return Found::Bad;
+        return 0;
     }
     if !continued(s, 2) {
-        return Found::Bad;
+        return 0;
     }
     if !continued(s, 3) {
-        return Found::Bad;
+        return 0;
     }
     let high = (a - 240) * 262144 + six_bits(s, 1) * 4096;
     let c = high + six_bits(s, 2) * 64 + six_bits(s, 3);
     if c < 65536 {
-        return Found::Bad;
+        return 0;
     }
     if c < 1114112 {
-        return Found::Char(c, 4);
+        return c * 8 + 4;
     }
-    Found::Bad
+    0
 }
 
-// The character that s begins with.
-fn first_char(s: &[u8]) -> Found
-    ensures { λ r. ⌜ r ≡ charOf (now (s .entry)) ⌝ }
+// The character of several bytes that s begins with. Its first byte is a.
+fn several_bytes(s: &[u8], a: u32) -> u32
+    requires { ⌜ (0 < length (now s)) × (a ≡ getD (now s) 0 0) × (128 ≤ a) ⌝ }
+    ensures { λ r. ⌜ unpacked r ≡ charOf (now (s .entry)) ⌝ }
 {
-    if s.len() == 0 {
-        return Found::End;
-    }
-    let a = wide(s[0]);
-    if a < 128 {
-        return Found::Char(a, 1);
-    }
     if a < 192 {
-        return Found::Bad;
+        return 0;
     }
     if a < 224 {
         return two_bytes(s, a);
@@ -128,7 +126,7 @@ fn first_char(s: &[u8]) -> Found
     if a < 248 {
         return four_bytes(s, a);
     }
-    Found::Bad
+    0
 }
 
 // The character at a position of a text. A position beyond the text has none.
@@ -138,24 +136,40 @@ pub fn char_at(text: &[u8], at: usize) -> Found
     if text.len() <= at {
         return Found::End;
     }
-    first_char(&text[at..])
+    let a = wide(text[at]);
+    if a < 128 {
+        return Found::Char(a, 1);
+    }
+    let v = several_bytes(&text[at..], a);
+    if v == 0 {
+        return Found::Bad;
+    }
+    Found::Char(v / 8, (v % 8) as usize)
 }
 
-// Is the text a run of characters? A byte below 128 is one.
+// The length of the character at a position, 0 where there is none.
+fn len_at(text: &[u8], at: usize) -> usize
+    requires { ⌜ at < length (now text) ⌝ }
+    ensures { λ r. ⌜ r ≡ lengthOf (charAt (now (text .entry)) at) ⌝ }
+{
+    let a = wide(text[at]);
+    if a < 128 {
+        return 1;
+    }
+    (several_bytes(&text[at..], a) % 8) as usize
+}
+
+// Is the text a run of characters?
 pub fn well_formed(text: &[u8]) -> bool
     ensures { λ r. ⌜ r ≡ wellFormed (now (text .entry)) ⌝ }
 {
     let mut at = 0;
     while at < text.len() {
-        if text[at] < 128 {
-            at += 1;
-            continue;
+        let n = len_at(text, at);
+        if n == 0 {
+            return false;
         }
-        match char_at(text, at) {
-            Found::Char(_, n) => at += n,
-            Found::Bad => return false,
-            Found::End => return false,
-        }
+        at += n;
     }
     true
 }

@@ -1,4 +1,4 @@
--- The character that stands there decides: a byte below 128 is one (`ascii-at`), else `char_at` says which.
+-- The character that stands there decides.
 -- Assumes nothing.
 use mathlib.Core.Path.{sym, ap, _∙_}
 use lib.ListN.{drop}
@@ -6,23 +6,6 @@ use borrow.Author.Needs.{needs}
 use Rattle.lexer.specs.Lexer.{headBy, headOf}
 use Rattle.lexer.proofs.head_at.Statement.{statement}
 use Rattle.lexer.proofs.head_at.Tie as tie
-use Rattle.utf8.proofs.Laws.{ascii-at}
-
-shared-slice-read-b : tie.Need-shared-slice-read-b
-shared-slice-read-b c = search needs
-
-cast-head-by : tie.Need-cast-head-by
-cast-head-by c = search needs
-
-head-by-requires : tie.Need-head-by-requires
-head-by-requires c κs = search needs
-
-returns : tie.Need-returns
-unfolding headOf
-returns c =
-    let a = c .before .before .before .before .args in
-    let p = c .before .before .before .before .pre in
-    c .head-by .ensures ∙ ap (λ f. headBy f (drop (a .at) (a .text .now))) (sym (ascii-at (a .text .now) (a .at) (p .1) (c .before .if1 .taken)))
 
 char-at-requires : tie.Need-char-at-requires
 char-at-requires c κs = search needs
@@ -30,8 +13,8 @@ char-at-requires c κs = search needs
 enum-known-c : tie.Need-enum-known-c
 enum-known-c c = search needs
 
-head-by-requires-2 : tie.Need-head-by-requires-2
-head-by-requires-2 c κs = search needs
+head-by-requires : tie.Need-head-by-requires
+head-by-requires c κs = search needs
 
 enum-told : tie.Need-enum-told
 enum-told c = search needs
@@ -39,37 +22,33 @@ enum-told c = search needs
 enum-told-2 : tie.Need-enum-told-2
 enum-told-2 c = search needs
 
+returns : tie.Need-returns
+unfolding headOf
+returns c =
+    let a = c .before .before .before .before .before .before .args in
+    c .head-by .ensures ∙ ap (λ f. headBy f (drop (a .at) (a .text .now))) (sym (c .before .before .c .given .1) ∙ c .before .before .before .before .char-at .ensures)
+
 returns-2 : tie.Need-returns-2
 unfolding headOf
 returns-2 c =
-    let a = c .before .before .before .before .before .before .before .before .args in
-    c .head-by2 .ensures ∙ ap (λ f. headBy f (drop (a .at) (a .text .now))) (sym (c .before .before .c .given .1) ∙ c .before .before .before .before .char-at .ensures)
+    let a = c .before .before .before .before .args in
+    ap (λ f. headBy f (drop (a .at) (a .text .now))) (sym (c .enum-told .given .1) ∙ c .before .before .char-at .ensures)
 
 returns-3 : tie.Need-returns-3
 unfolding headOf
 returns-3 c =
-    let a = c .before .before .before .before .before .before .args in
-    ap (λ f. headBy f (drop (a .at) (a .text .now))) (sym (c .enum-told .given .1) ∙ c .before .before .char-at .ensures)
-
-returns-4 : tie.Need-returns-4
-unfolding headOf
-returns-4 c =
-    let a = c .before .before .before .before .before .before .args in
+    let a = c .before .before .before .before .args in
     ap (λ f. headBy f (drop (a .at) (a .text .now))) (sym (c .enum-told2 .given .1) ∙ c .before .before .char-at .ensures)
 
 pub head-at-spec : {M : Type 1} → statement M
 head-at-spec =
     tie.close
     (tie.spec
-    shared-slice-read-b
-    cast-head-by
-    head-by-requires
-    returns
     char-at-requires
     enum-known-c
-    head-by-requires-2
+    head-by-requires
     enum-told
     enum-told-2
+    returns
     returns-2
-    returns-3
-    returns-4)
+    returns-3)

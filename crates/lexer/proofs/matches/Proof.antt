@@ -54,7 +54,7 @@ returns-2 c =
     let hj : j < length w = omega (arith, c .before .before .before .before .before .before .before .pre .2) in
     let l : c .before .letter .result ≡ getD w j 0 =
     c .before .letter .ensures ∙ ap (λ t. getD (getD t (a .i) []) j 0) (c .before .before .before .before .before .before .before .pre .0)
-    ∙ letter-is (a .i) (c .before .before .before .before .before .before .before .pre .1) j (omega (arith, word-fits (a .i) (c .before .before .before .before .before .before .before .pre .1))) in
+    ∙ letter-is (a .i) (c .before .before .before .before .before .before .before .pre .1) j hj in
     let e = ne-eqb (getD w j 0) (getD (a .text .now) (a .at + j) 0) (λ e. c .if2 .taken (sym e ∙ sym l)) in
     sym (inv .1 ∙ begins-turn w (a .text .now) j (a .at + j) hj (c .before .before .before .if1 .left) ∙ ap (λ (b : Bool). b && begins (drop (j + 1) w) (drop (a .at + j + 1) (a .text .now))) e)
 
@@ -73,7 +73,7 @@ loop-again c =
     let hj : j < length w = omega (arith, c .before .before .before .before .before .before .before .pre .2) in
     let l : c .before .letter .result ≡ getD w j 0 =
     c .before .letter .ensures ∙ ap (λ t. getD (getD t (a .i) []) j 0) (c .before .before .before .before .before .before .before .pre .0)
-    ∙ letter-is (a .i) (c .before .before .before .before .before .before .before .pre .1) j (omega (arith, word-fits (a .i) (c .before .before .before .before .before .before .before .pre .1))) in
+    ∙ letter-is (a .i) (c .before .before .before .before .before .before .before .pre .1) j hj in
     let e = eq-eqb (getD w j 0) (getD (a .text .now) (a .at + j) 0) (sym l ∙ sym (c .if2 .left)) in
     let m : a .at + j + 1 ≡ a .at + (j + 1) = omega arith in (
       omega arith,

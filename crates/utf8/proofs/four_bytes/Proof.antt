@@ -1,6 +1,6 @@
 -- Each refusal by the first byte that is wrong, or by a number that has a shorter form or is too large; else the bytes are the encoding.
 -- Assumes nothing.
-use mathlib.Core.Path.{_≡_, sym}
+use mathlib.Core.Path.{_≡_, sym, _∙_}
 use Prim.Native.Nat.{_+_, _*_, _-_, _<_}
 use native.Mathlib.Omega.{arith}
 use lib.ListN.{getD}
@@ -8,6 +8,7 @@ use borrow.Author.Needs.{needs}
 use borrow.Author.Tests.{not-false}
 use Rattle.utf8.proofs.Forms.{unless, bad-second, bad-third, bad-fourth, rejected, four-found, four-value}
 use Rattle.utf8.proofs.Laws.{scalar-high}
+use Rattle.utf8.proofs.Packed.{packed, packed-none}
 use Rattle.utf8.proofs.four_bytes.Statement.{statement}
 use Rattle.utf8.proofs.four_bytes.Tie as tie
 
@@ -19,7 +20,7 @@ returns c =
     let s = c .before .before .before .args .s .now in
     let a = c .before .before .before .args .a in
     let p = c .before .before .before .pre in
-    sym (bad-second s (p .0) (omega arith) (unless (c .before .continued .ensures .1) (c .if1 .taken)))
+    packed-none ∙ sym (bad-second s (p .0) (omega arith) (unless (c .before .continued .ensures .1) (c .if1 .taken)))
 
 continued-requires-2 : tie.Need-continued-requires-2
 continued-requires-2 c κs = search needs
@@ -29,7 +30,7 @@ returns-2 c =
     let s = c .before .before .before .before .before .args .s .now in
     let a = c .before .before .before .before .before .args .a in
     let p = c .before .before .before .before .before .pre in
-    sym (bad-third s (p .0) (omega arith) (unless (c .before .continued2 .ensures .1) (c .if2 .taken)))
+    packed-none ∙ sym (bad-third s (p .0) (omega arith) (unless (c .before .continued2 .ensures .1) (c .if2 .taken)))
 
 continued-requires-3 : tie.Need-continued-requires-3
 continued-requires-3 c κs = search needs
@@ -39,7 +40,7 @@ returns-3 c =
     let s = c .before .before .before .before .before .before .before .args .s .now in
     let a = c .before .before .before .before .before .before .before .args .a in
     let p = c .before .before .before .before .before .before .before .pre in
-    sym (bad-fourth s (p .0) (omega arith) (unless (c .before .continued3 .ensures .1) (c .if3 .taken)))
+    packed-none ∙ sym (bad-fourth s (p .0) (omega arith) (unless (c .before .continued3 .ensures .1) (c .if3 .taken)))
 
 sub-high : tie.Need-sub-high
 sub-high c = search needs
@@ -76,7 +77,13 @@ returns-4 c =
     let s = c .before .before .before .before .before .before .before .before .before .before .before .args .s .now in
     let a = c .before .before .before .before .before .before .before .before .before .before .before .args .a in
     let p = c .before .before .before .before .before .before .before .before .before .before .before .pre in
-    sym (rejected s (p .0) (λ k t d. let v = four-value s k a (c .before .before .before .six-bits .result) (c .before .before .six-bits2 .result) (c .before .six-bits3 .result) (p .2) (p .1) (c .before .before .before .six-bits .ensures .0) (c .before .before .six-bits2 .ensures .0) (c .before .six-bits3 .ensures .0) d in omega arith))
+    packed-none ∙ sym (rejected s (p .0) (λ k t d. let v = four-value s k a (c .before .before .before .six-bits .result) (c .before .before .six-bits2 .result) (c .before .six-bits3 .result) (p .2) (p .1) (c .before .before .before .six-bits .ensures .0) (c .before .before .six-bits2 .ensures .0) (c .before .six-bits3 .ensures .0) d in omega arith))
+
+mul-result : tie.Need-mul-result
+mul-result c = search needs
+
+add-result : tie.Need-add-result
+add-result c = search needs
 
 returns-5 : tie.Need-returns-5
 returns-5 c =
@@ -93,14 +100,15 @@ returns-5 c =
     let i : z + 128 ≡ getD s 3 0 = c .before .before .six-bits3 .ensures .0 in
     let j : z < 64 = c .before .before .six-bits3 .ensures .1 in
     let m = c .before .before .before .before .before .before .continued3 .ensures .0 (not-false _ (c .before .before .before .before .before .if3 .left)) in
-    sym (four-found s ((a - 240) * 262144 + x * 4096 + y * 64 + z) (m .0) (c .before .if4 .left) (c .if5 .taken) (omega arith) (omega arith) (omega arith) (omega arith))
+    packed ((a - 240) * 262144 + x * 4096 + y * 64 + z) 4 (omega arith) (omega arith)
+    ∙ sym (four-found s ((a - 240) * 262144 + x * 4096 + y * 64 + z) (m .0) (c .before .if4 .left) (c .if5 .taken) (omega arith) (omega arith) (omega arith) (omega arith))
 
 returns-6 : tie.Need-returns-6
 returns-6 c =
     let s = c .before .before .before .before .before .before .before .before .before .before .before .before .args .s .now in
     let a = c .before .before .before .before .before .before .before .before .before .before .before .before .args .a in
     let p = c .before .before .before .before .before .before .before .before .before .before .before .before .pre in
-    sym (rejected s (p .0) (λ k t d. let v = four-value s k a (c .before .before .before .before .six-bits .result) (c .before .before .before .six-bits2 .result) (c .before .before .six-bits3 .result) (p .2) (p .1) (c .before .before .before .before .six-bits .ensures .0) (c .before .before .before .six-bits2 .ensures .0) (c .before .before .six-bits3 .ensures .0) d in let w = scalar-high k t in omega arith))
+    packed-none ∙ sym (rejected s (p .0) (λ k t d. let v = four-value s k a (c .before .before .before .before .six-bits .result) (c .before .before .before .six-bits2 .result) (c .before .before .six-bits3 .result) (p .2) (p .1) (c .before .before .before .before .six-bits .ensures .0) (c .before .before .before .six-bits2 .ensures .0) (c .before .before .six-bits3 .ensures .0) d in let w = scalar-high k t in omega arith))
 
 pub four-bytes-spec : {M : Type 1} → statement M
 four-bytes-spec =
@@ -123,5 +131,7 @@ four-bytes-spec =
     six-bits-requires-3
     add-c-2
     returns-4
+    mul-result
+    add-result
     returns-5
     returns-6)
