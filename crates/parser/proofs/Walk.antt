@@ -108,10 +108,12 @@ module _ (ks ps ls : List ℕ) (even : length ps ≡ length ks) (flat : length l
         forward = omega (arith, d .moved);
       }
 
-  -- a token was taken, and the bracket that it opens
-  pub took-bracket : {e : Effect} {st u r : State} {es es₁ es₂ xs xs₁ xs₂ : List ℕ} → opens (bracketIn ks (st .at)) ≡ true → Did e st u es es₁ xs xs₁ → Read ks ps ls true (getD ps (st .at) 0) u r es₁ es₂ xs₁ xs₂ → Took ks ps ls e st r es es₂ xs xs₂
-  took-bracket {e} {st} {u} {r} {es} {es₁} {es₂} {xs} {xs₁} {xs₂} o d b =
-      record {
+  -- a token was taken, and the bracket that it opens, from a copy of the state and back
+  pub took-bracket : {e : Effect} {st u v w r : State} {es es₁ es₂ xs xs₁ xs₂ : List ℕ} → opens (bracketIn ks (st .at)) ≡ true → Did e st u es es₁ xs xs₁ → v ≡ u → Read ks ps ls true (getD ps (st .at) 0) v w es₁ es₂ xs₁ xs₂ → r ≡ w → Took ks ps ls e st r es es₂ xs xs₂
+  took-bracket {e} {st} {u} {v} {w} {r} {es} {es₁} {es₂} {xs} {xs₁} {xs₂} o d copy read back =
+      let b : Read ks ps ls true (getD ps (st .at) 0) u w es₁ es₂ xs₁ xs₂ = subst (λ (x : State). Read ks ps ls true (getD ps (st .at) 0) x w es₁ es₂ xs₁ xs₂) copy read in
+      subst (λ (x : State). Took ks ps ls e st x es es₂ xs xs₂) (sym back)
+      (record {
         went = record {
           same = λ stk.
               ap (λ (c : Bool). walk (cond c (getD ps (st .at) 0 ∷ stk) stk) (applied e (view st es xs)) (drop (st .at + 1) T)) o
@@ -121,7 +123,7 @@ module _ (ks ps ls : List ℕ) (even : length ps ≡ length ks) (flat : length l
         };
         kept = kept-then (d .kept) (b .kept);
         forward = omega (arith, d .moved, b .forward);
-      }
+      })
 
   module _ (inside : Bool) (q : ℕ) where
     pub within-none : (st : State) (es xs : List ℕ) → Ready st → Within ks ps ls inside q st st es es xs xs

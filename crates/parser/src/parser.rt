@@ -107,7 +107,8 @@ fn take_token(
     let at = st.at;
     let u = apply(st, e, errs, exps);
     if opens_at(kinds, at) {
-        return read_tokens(kinds, poss, lens, u, true, poss[at], errs, exps);
+        let r = read_tokens(kinds, poss, lens, u.copied(), true, poss[at], errs, exps);
+        return r.copied();
     }
     u
 }

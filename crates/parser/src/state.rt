@@ -23,6 +23,23 @@ pub struct State {
     pub exps: usize,
 }
 
+impl State {
+    // The same state, field by field. A call is handed the copy and gives one back, so that the state itself stays in registers around it.
+    pub(crate) fn copied(self) -> State
+        requires { ⌜ mag (self .count) < 1000 ⌝ }
+        ensures { λ r. ⌜ r ≡ self ⌝ }
+    {
+        let context = self.context;
+        State {
+            at: self.at,
+            count: self.count,
+            context,
+            errors: self.errors,
+            exps: self.exps,
+        }
+    }
+}
+
 // The token at i, as the one before it sees it.
 pub(crate) fn next_at(kinds: &[u8], i: usize) -> Next
     ensures { λ r. ⌜ r ≡ nextIn (now (kinds .entry)) i ⌝ }

@@ -19,6 +19,7 @@ use Rattle.parser.proofs.parser.bracket_at.Reads as bracket-at-reads
 use Rattle.parser.proofs.parser.effect_at.Reads as effect-at-reads
 use Rattle.parser.proofs.parser.is_end.Reads as is-end-reads
 use Rattle.parser.proofs.parser.opens_at.Reads as opens-at-reads
+use Rattle.parser.proofs.state.State.copied.Reads as copied-reads
 use Rattle.parser.proofs.parser.+read_tokens+take_token.{statement}
 use Rattle.parser.proofs.parser.+read_tokens+take_token.Tie.{close}
 
@@ -50,7 +51,7 @@ read-tokens-claims t = (bracket-at-reads.Asked, bracket-at-reads.Learnt, effect-
 
 -- and those in `take_token`
 abbrev take-token-claims : ℕ → take-token-lts.Claims
-take-token-claims t = (apply-reads.Asked, apply-reads.Learnt, opens-at-reads.Asked, opens-at-reads.Learnt, read-tokens-below t, read-tokens.Post)
+take-token-claims t = (apply-reads.Asked, apply-reads.Learnt, opens-at-reads.Asked, opens-at-reads.Learnt, copied-reads.Asked, copied-reads.Learnt, read-tokens-below t, read-tokens.Post)
 
 abbrev Inv : read-tokens-lts.InvT-loop
 Inv kinds poss lens inside pos errs₀ exps₀ s₀ errs exps s =
@@ -128,21 +129,25 @@ take-token-apply-requires t c κs =
 take-token-opens-at-requires : (t : ℕ) → take-token-lts.Need-opens-at-requires (take-token-claims t) (take-token-at t) take-token.Post
 take-token-opens-at-requires t c κs = c .before .before .before .before .before .before .before .before .before .before .before .before .pre .1 .1
 
+take-token-copied-requires : (t : ℕ) → take-token-lts.Need-copied-requires (take-token-claims t) (take-token-at t) take-token.Post
+take-token-copied-requires t c κs = omega (arith, c .before .before .before .before .before .before .apply .ensures .ready .bound, c .before .before .before .before .before .before .apply .ensures .ready .small)
+
 take-token-mul-read-tokens : (t : ℕ) → take-token-lts.Need-mul-read-tokens (take-token-claims t) (take-token-at t) take-token.Post
 take-token-mul-read-tokens t c = search needs
 
 take-token-shared-slice-read-read-tokens : (t : ℕ) → take-token-lts.Need-shared-slice-read-read-tokens (take-token-claims t) (take-token-at t) take-token.Post
 take-token-shared-slice-read-read-tokens t c =
-    let s = c .before .before .before .before .before .before .before .before .before .before .before .before .before .before .before in
-    let a = s .args in
+    let s = c .before .before .before .before .before .before .before .before .before .before .before .before .before .before .before .before in
     omega (arith, s .pre .1 .0 .poss, s .pre .1 .1)
 
 take-token-read-tokens-requires : (t : ℕ) → take-token-lts.Need-read-tokens-requires (take-token-claims t) (take-token-at t) take-token.Post
 take-token-read-tokens-requires t c κs =
-    let s = c .before .before .before .before .before .before .before .before .before .before .before .before .before .before .before .before .before in
-    let a = s .args in
-    let d = c .before .before .before .before .before .before .before .before .before .apply in
-    (omega (arith, s .pre .0, d .ensures .moved, s .pre .1 .1), (s .pre .1 .0, d .ensures .ready, record { errs = omega (arith, s .pre .1 .4 .errs, d .kept); exps = omega (arith, s .pre .1 .4 .exps, d .kept) }))
+    let s = c .before .before .before .before .before .before .before .before .before .before .before .before .before .before .before .before .before .before in
+    let d = c .before .before .before .before .before .before .before .before .before .before .apply in
+    rw (c .before .before .before .copied .ensures) (omega (arith, s .pre .0, d .ensures .moved, s .pre .1 .1), (s .pre .1 .0, d .ensures .ready, record { errs = omega (arith, s .pre .1 .4 .errs, d .kept); exps = omega (arith, s .pre .1 .4 .exps, d .kept) }))
+
+take-token-copied-requires-2 : (t : ℕ) → take-token-lts.Need-copied-requires-2 (take-token-claims t) (take-token-at t) take-token.Post
+take-token-copied-requires-2 t c κs = omega (arith, c .before .before .before .before .read-tokens .ensures .went .ready .bound, c .before .before .before .before .read-tokens .ensures .went .ready .small)
 
 take-token-same-length : (t : ℕ) → take-token-lts.Need-same-length (take-token-claims t) (take-token-at t) take-token.Post
 take-token-same-length t c = search needs
@@ -152,9 +157,9 @@ take-token-same-length-2 t c = search needs
 
 take-token-returns : (t : ℕ) → take-token-lts.Need-returns (take-token-claims t) (take-token-at t) take-token.Post
 take-token-returns t c =
-    let s = c .before .before .before .before .before .before .before .before .before .before .before .before .before .before .before .before .before .before .before .before .before .before in
+    let s = c .before .before .before .before .before .before .before .before .before .before .before .before .before .before .before .before .before .before .before .before .before .before .before .before in
     let a = s .args in
-    took-bracket (a .kinds .now) (a .poss .now) (a .lens .now) (s .pre .1 .0 .poss) (s .pre .1 .0 .lens) (sym (c .before .before .before .before .before .before .before .before .before .opens-at .ensures) ∙ c .before .before .before .before .before .before .before .before .if1 .taken) (c .before .before .before .before .before .before .before .before .before .before .before .before .before .before .apply .ensures) (c .before .before .before .before .read-tokens .ensures)
+    took-bracket (a .kinds .now) (a .poss .now) (a .lens .now) (s .pre .1 .0 .poss) (s .pre .1 .0 .lens) (sym (c .before .before .before .before .before .before .before .before .before .before .before .opens-at .ensures) ∙ c .before .before .before .before .before .before .before .before .before .before .if1 .taken) (c .before .before .before .before .before .before .before .before .before .before .before .before .before .before .before .before .apply .ensures) (c .before .before .before .before .before .before .before .before .before .copied .ensures) (c .before .before .before .before .before .read-tokens .ensures) (c .copied2 .ensures)
 
 take-token-same-length-3 : (t : ℕ) → take-token-lts.Need-same-length-3 (take-token-claims t) (take-token-at t) take-token.Post
 take-token-same-length-3 t c = search needs
@@ -192,9 +197,11 @@ pub +read-tokens+take-token-spec : {M : Type 1} → statement M
     take-token.Post
     (take-token-apply-requires t)
     (take-token-opens-at-requires t)
+    (take-token-copied-requires t)
     (take-token-mul-read-tokens t)
     (take-token-shared-slice-read-read-tokens t)
     (take-token-read-tokens-requires t)
+    (take-token-copied-requires-2 t)
     (take-token-same-length t)
     (take-token-same-length-2 t)
     (take-token-returns t)
