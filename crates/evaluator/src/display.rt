@@ -1,8 +1,7 @@
 // The display list: the members in the order of the semitones of what they are shown as.
-ghost use mathlib.Core.Bool.{cond};
 ghost use mathlib.Core.List.{[], _∷_, _++_};
 ghost use mathlib.Core.Path.{_≡_};
-ghost use Prim.Native.Nat.{_+_, _≤_, _<_};
+ghost use Prim.Native.Nat.{_+_, _<_};
 ghost use lib.ListN.{getD};
 ghost use Rattle.chord.specs.Chord.{members, listed};
 ghost use Rattle.evaluator.specs.Display.{shown, order, displayOf, susOf};
@@ -97,17 +96,6 @@ fn push(l: IntervalList, interval: u8) -> IntervalList
     m
 }
 
-// The list with the interval i as it is shown, where it is a member.
-fn push_shown(l: IntervalList, s: IntervalSet, k: u8, i: u8) -> IntervalList
-    requires { ⌜ (l .len < 23) × (i < 23) ⌝ }
-    ensures { λ r. ⌜ (listed r ≡ listed l ++ cond (members s i) (shown k i ∷ []) []) × (r .len ≤ l .len + 1) ⌝ }
-{
-    if s.contains(i) {
-        return push(l, shown(k, i));
-    }
-    l
-}
-
 // The display list of a set, where the first sus is of the interval k; k is any other number where there is none.
 pub fn display(k: u8, s: IntervalSet) -> IntervalList
     ensures { λ r. ⌜ listed r ≡ displayOf k (members s) ⌝ }
@@ -118,8 +106,12 @@ pub fn display(k: u8, s: IntervalSet) -> IntervalList
     };
     let mut j = 0;
     while j < 23 {
-        l = push_shown(l, s, k, order_at(k, j));
+        let i = order_at(k, j);
         j += 1;
+        if !s.contains(i) {
+            continue;
+        }
+        l = push(l, shown(k, i));
     }
     l
 }
