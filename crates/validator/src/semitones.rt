@@ -1,9 +1,9 @@
 // The check of three neighbours among the twelve classes of semitones, going round from 11 to 0.
 ghost use mathlib.Core.Path.{_≡_};
-ghost use mathlib.Core.Bool.{cond, not, _&&_};
+ghost use mathlib.Core.Bool.{not, _&&_};
 ghost use Prim.Native.Nat.{ℕ, _+_, _*_, _%_, _≤_, _<_};
-ghost use lib.Dec.{eqb, ltb};
-ghost use lib.ListN.{length};
+ghost use lib.Dec.{ltb};
+ghost use lib.ListN.{getD, length};
 ghost use Rattle.chord.specs.Chord.{members};
 ghost use Rattle.chord.specs.Interval.{semitones};
 ghost use Rattle.validator.specs.State.{errorOf, lastsOf, Wrote};
@@ -27,30 +27,28 @@ impl Lasts {
     {
         Lasts { of: [23; 12] }
     }
-
-    // The interval i, if it is in the set, is the last of its class.
-    fn with(self, set: IntervalSet, i: u8) -> Lasts
-        requires { ⌜ i < 23 ⌝ }
-        ensures { λ r. ⌜ ((c : ℕ) → c < 12 → lastsOf r c ≡ cond (members set i && eqb (semitones i % 12) c) i (lastsOf self c)) ⌝ }
-    {
-        if !set.contains(i) {
-            return self;
-        }
-        let class = (st(i) % 12) as usize;
-        let mut l = self;
-        l.of[class] = i;
-        l
-    }
 }
 
+fn class_of(i: u8) -> usize
+    requires { ⌜ i < 23 ⌝ }
+    ensures { λ r. ⌜ r ≡ semitones i % 12 ⌝ }
+{
+    (st(i) % 12) as usize
+}
+
+// A later interval takes the place of an earlier one of its class.
 fn last_of_class(set: IntervalSet) -> Lasts
     ensures { λ r. ⌜ ((c : ℕ) → c < 12 → lastsOf r c ≡ lastBelow 23 (members set) c) ⌝ }
 {
     let mut lasts = Lasts::new();
     let mut i = 0;
     while i < 23 {
-        lasts = lasts.with(set, i);
+        let k = i;
         i += 1;
+        if !set.contains(k) {
+            continue;
+        }
+        lasts.of[class_of(k)] = k;
     }
     lasts
 }
@@ -77,14 +75,14 @@ fn fault_of_three(a: u8, b: u8, c: u8) -> Fault
     )
 }
 
-// The class c and the next two.
-fn neighbours_at(lasts: Lasts, c: usize) -> Fault
+// The class c and the next two, in the array of the last intervals.
+fn neighbours_at(lasts: &[u8; 12], c: usize) -> Fault
     requires { ⌜ c < 12 ⌝ }
-    ensures { λ r. ⌜ errorOf r ≡ neighboursAt (lastsOf lasts) c ⌝ }
+    ensures { λ r. ⌜ errorOf r ≡ neighboursAt (λ k. getD (now (lasts .entry)) k 0) c ⌝ }
 {
     let d = (c + 1) % 12;
     let e = (c + 2) % 12;
-    fault_of_three(lasts.of[c], lasts.of[d], lasts.of[e])
+    fault_of_three(lasts[c], lasts[d], lasts[e])
 }
 
 // Are there three neighbours?
@@ -94,7 +92,7 @@ pub(crate) fn has_neighbours(set: IntervalSet) -> bool
     let lasts = last_of_class(set);
     let mut k = 0;
     while k < 12 {
-        let f = neighbours_at(lasts, k);
+        let f = neighbours_at(&lasts.of, k);
         if f.is_some() {
             return true;
         }
@@ -111,7 +109,7 @@ pub(crate) fn validate_semitones(set: IntervalSet, errs: &mut [u16], n: usize) -
     let mut m = n;
     let mut c = 0;
     while c < 12 {
-        m = push(errs, m, neighbours_at(lasts, c));
+        m = push(errs, m, neighbours_at(&lasts.of, c));
         c += 1;
     }
     m

@@ -32,13 +32,14 @@ is-some-requires : tie.Need-is-some-requires Inv-loop μ-loop
 is-some-requires c κs = search needs
 
 returns : tie.Need-returns Inv-loop μ-loop
+unfolding lastsOf
 returns c =
-    let last = lastsOf (c .before .before .before .before .before .last-of-class .result) in
-    let s = members (c .before .before .before .before .before .before .args .set) in
-    let i = c .before .before .before .before .loop .k in
-    let e = c .before .before .before .before .loop .inv .1 ∙ ap isNil (all-next (neighboursAt last) 12 i (c .before .before .before .loop-test .taken)) in
+    let last = lastsOf (c .before .before .before .before .before .before .before .last-of-class .result) in
+    let s = members (c .before .before .before .before .before .before .before .before .args .set) in
+    let i = c .before .before .before .before .before .before .loop .k in
+    let e = c .before .before .before .before .before .before .loop .inv .1 ∙ ap isNil (all-next (neighboursAt last) 12 i (c .before .before .before .before .before .loop-test .taken)) in
     let n = some-found (c .before .before .neighbours-at .result) (allFrom (neighboursAt last) (12 - (i + 1)) (i + 1)) (c .before .before .neighbours-at .ensures) (sym (c .before .is-some .ensures) ∙ c .if1 .taken) in
-    sym (ap not (sym (ap isNil (semitones-same last s (c .before .before .before .before .before .last-of-class .ensures))) ∙ e ∙ n))
+    sym (ap not (sym (ap isNil (semitones-same last s (c .before .before .before .before .before .before .before .last-of-class .ensures))) ∙ e ∙ n))
 
 add-k : tie.Need-add-k Inv-loop μ-loop
 add-k c = omega arith
@@ -47,11 +48,12 @@ loop-less : tie.Need-loop-less Inv-loop μ-loop
 loop-less c = omega arith
 
 loop-again : tie.Need-loop-again Inv-loop μ-loop
+unfolding lastsOf
 loop-again c =
-    let f = neighboursAt (lastsOf (c .before .before .before .before .before .last-of-class .result)) in
-    let i = c .before .before .before .before .loop .k in
-    let e = c .before .before .before .before .loop .inv .1 ∙ ap isNil (all-next f 12 i (c .before .before .before .loop-test .taken)) in
-    (omega (arith, c .before .before .before .loop-test .taken), e ∙ none-found (c .before .before .neighbours-at .result) (allFrom f (12 - (i + 1)) (i + 1)) (c .before .before .neighbours-at .ensures) (sym (c .before .is-some .ensures) ∙ c .if1 .left))
+    let f = neighboursAt (lastsOf (c .before .before .before .before .before .before .before .last-of-class .result)) in
+    let i = c .before .before .before .before .before .before .loop .k in
+    let e = c .before .before .before .before .before .before .loop .inv .1 ∙ ap isNil (all-next f 12 i (c .before .before .before .before .before .loop-test .taken)) in
+    (omega (arith, c .before .before .before .before .before .loop-test .taken), e ∙ none-found (c .before .before .neighbours-at .result) (allFrom f (12 - (i + 1)) (i + 1)) (c .before .before .neighbours-at .ensures) (sym (c .before .is-some .ensures) ∙ c .if1 .left))
 
 returns-2 : tie.Need-returns-2 Inv-loop μ-loop
 returns-2 c =

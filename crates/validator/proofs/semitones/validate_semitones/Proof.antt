@@ -29,7 +29,7 @@ neighbours-at-requires : tie.Need-neighbours-at-requires Inv-loop μ-loop
 neighbours-at-requires c κs = search needs
 
 push-requires : tie.Need-push-requires Inv-loop μ-loop
-push-requires c κs = omega (arith, c .before .before .before .loop .inv .2, c .before .before .before .loop .inv .3, c .before .before .loop-test .taken, c .before .before .before .before .before .before .pre)
+push-requires c κs = omega (arith, c .before .before .before .before .before .loop .inv .2, c .before .before .before .before .before .loop .inv .3, c .before .before .before .before .loop-test .taken, c .before .before .before .before .before .before .before .before .pre)
 
 add-c : tie.Need-add-c Inv-loop μ-loop
 add-c c = omega arith
@@ -38,10 +38,11 @@ loop-less : tie.Need-loop-less Inv-loop μ-loop
 loop-less c = omega arith
 
 loop-again : tie.Need-loop-again Inv-loop μ-loop
+unfolding lastsOf
 loop-again c =
-    let v = c .before .before .before .before .before .before .loop .inv in
+    let v = c .before .before .before .before .before .before .before .before .loop .inv in
     let w = c .before .before .push .ensures in
-    (wrote-as (all-step (neighboursAt (lastsOf (c .before .before .before .before .before .before .before .last-of-class .result))) (c .before .before .before .before .before .before .loop .c)) (wrote-then (v .0) (wrote-as (c .before .before .before .neighbours-at .ensures) (w .0))), omega (arith, c .before .before .before .before .before .loop-test .taken), omega (arith, v .2, w .1), omega (arith, v .3, c .before .before .push .kept))
+    (wrote-as (all-step (neighboursAt (lastsOf (c .before .before .before .before .before .before .before .before .before .last-of-class .result))) (c .before .before .before .before .before .before .before .before .loop .c)) (wrote-then (v .0) (wrote-as (c .before .before .before .neighbours-at .ensures) (w .0))), omega (arith, c .before .before .before .before .before .before .before .loop-test .taken), omega (arith, v .2, w .1), omega (arith, v .3, c .before .before .push .kept))
 
 same-length : tie.Need-same-length Inv-loop μ-loop
 same-length c = search needs
