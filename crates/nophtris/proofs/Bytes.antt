@@ -6,11 +6,13 @@ use mathlib.Core.Path.{_≡_, refl, sym, ap, _∙_}
 use Prim.Native.Nat.{ℕ, zero, suc, _+_, _≤_, _<_, zero-le}
 use native.Mathlib.Omega.{arith}
 use lib.Dec.{eqb, leb, ltb}
-use lib.ListN.{drop, drop-of-length-le, getD, length, length-append, length-drop, replicate, set, take}
+use lib.ListN.{List·getD-eq-default, drop, drop-of-length-le, getD, length, length-append, length-drop, replicate, set, take}
 use lib.Seq.{drop-cons, getD-drop, getD-take, length-take-le, take-suc, take-suc-set}
 use borrow.Author.Tests.{eqb-false, eqb-true, le-leb, le-ltb, lt-leb, lt-ltb, ltb-true, ltb-false, ne-eqb}
-use Rattle.chord.specs.Chord.{Four}
+use Rattle.chord.proofs.Store.{listed-at}
+use Rattle.chord.specs.Chord.{Four, listed}
 use Rattle.chord.specs.Interval.{Set, empty, insert}
+use Rattle.chord.specs.declared.interval.IntervalList.{IntervalList}
 use Rattle.chord.specs.declared.note.OptionalNote.the-variants.{None, Some}
 use Rattle.chord.specs.declared.note.OptionalNote.{OptionalNote}
 use Rattle.chord.specs.declared.note.RootModifier.the-variants.{Natural}
@@ -62,6 +64,14 @@ behind (x ∷ d) (suc k) = behind d k
 
 pub list-at : (d : List ℕ) (j : ℕ) → j < 23 → getD (padded d) j 0 ≡ getD d j 0
 list-at d j h = getD-take 23 (d ++ zeros) j 0 h ∙ behind d j
+
+-- below the count the list's number stands in its array; behind it there is none
+pub number-of : (l : IntervalList) (n j : ℕ) → n ≡ length (listed l) → cond (ltb j n) (getD (l .numbers) j 0) 0 ≡ getD (listed l) j 0
+number-of l n j e = go (ltb j n) refl
+  where
+    go : (t : Bool) → ltb j n ≡ t → cond t (getD (l .numbers) j 0) 0 ≡ getD (listed l) j 0
+    go true p = sym (listed-at l j (omega (arith, ltb-true j n p, e)))
+    go false p = sym (List·getD-eq-default (listed l) 0 {n = j} (omega (arith, ltb-false j n p, e)))
 
 -- the bytes of a record are 51
 pub note-length : (n : OptionalNote) → length (noteBytes n) ≡ 2

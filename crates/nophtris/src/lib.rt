@@ -3,8 +3,8 @@ ghost use mathlib.Core.Bool.{cond, _||_};
 ghost use mathlib.Core.List.{[], _∷_};
 ghost use mathlib.Core.Path.{_≡_};
 ghost use Prim.Native.Nat.{_+_, _≤_, _<_};
-ghost use lib.Dec.{eqb};
-ghost use lib.ListN.{drop, getD, length, take};
+ghost use lib.Dec.{eqb, ltb};
+ghost use lib.ListN.{drop, length, take};
 ghost use Rattle.chord.specs.Chord.{fourOf, members, listed};
 ghost use Rattle.chord.specs.Interval.{insert};
 ghost use Rattle.reader.specs.Reader.{readOf};
@@ -80,13 +80,12 @@ fn put_set(out: &mut [u8], n: usize, set: IntervalSet) -> usize
     m
 }
 
-// The i-th number of the first n; 0 behind them.
-fn number_at(list: IntervalList, n: usize, i: usize) -> u8
-    requires { ⌜ (n ≡ length (listed list)) × (i < 23) ⌝ }
-    ensures { λ r. ⌜ r ≡ getD (listed list) i 0 ⌝ }
+// The i-th number x of a list of n; 0 behind them.
+fn number_at(x: u8, n: usize, i: usize) -> u8
+    ensures { λ r. ⌜ r ≡ cond (ltb i n) x 0 ⌝ }
 {
     if i < n {
-        return list.numbers[i];
+        return x;
     }
     0
 }
@@ -100,7 +99,7 @@ fn put_list(out: &mut [u8], n: usize, list: IntervalList) -> usize
     let mut m = put(out, n, count as u8);
     let mut i = 0;
     while i < 23 {
-        m = put(out, m, number_at(list, count, i));
+        m = put(out, m, number_at(list.numbers[i], count, i));
         i += 1;
     }
     m
