@@ -4,7 +4,6 @@ use mathlib.Core.List.{List, []}
 use mathlib.Core.Path.{_≡_, refl, sym, ap, subst, _∙_}
 use Prim.Native.Nat.{ℕ, _+_, _*_, _≤_, _<_}
 use native.Mathlib.Omega.{arith}
-use lib.Dec.{T}
 use lib.IntN.{ℤ}
 use lib.ListN.{length, getD}
 use lib.Signed.{mag}
@@ -13,10 +12,11 @@ use mir.Syntax.{w16}
 use mir.Val.{ofZ, toZ}
 use Rattle.chord.specs.declared.note.OptionalNote.the-variants as optional
 use Rattle.chord.specs.declared.note.OptionalNote.{OptionalNote}
+use Rattle.chord.specs.declared.note.RootModifier.the-variants.{Sharp, Flat}
 use Rattle.expression.specs.declared.expression.Exp.{Exp}
 use Rattle.step.proofs.Laws.{inside-small}
 use Rattle.step.specs.Bounds.{Small, gainsCount}
-use Rattle.step.specs.Step.{insideOf}
+use Rattle.step.specs.Step.{addStep, augStep, hyphenStep, insideOf, modifierStep, omitStep, slashStep, susStep}
 use Rattle.behind.specs.Next.{isSign}
 use Rattle.step.specs.declared.effect.Effect.{Effect}
 use Rattle.step.specs.declared.effect.Gains.the-variants.{None, One, Two}
@@ -30,7 +30,7 @@ use Rattle.token.specs.Token.{typeOf}
 use Rattle.token.specs.declared.TokenType.the-variants as type
 use Rattle.token.specs.declared.TokenType.{TokenType}
 use Rattle.parser.specs.Parser.{Parsing, errorOf, gainsOf, rootEffect}
-use Rattle.parser.specs.State.{Did, Fits, Gained, Ready, Stored, aheadIn, asksAhead, effectIn, hereIn, start}
+use Rattle.parser.specs.State.{Did, Fits, Gained, Ready, Stored, Foreseen, aheadIn, reachOf, effectIn, hereIn, start}
 use Rattle.parser.specs.declared.state.State.{State}
 
 pub gains-length : (g : Gains) → length (gainsOf g) ≡ gainsCount g
@@ -70,50 +70,42 @@ count-back d h = toZ-ofZ (record { sfits = omega arith })
 fits-small : {h : Here} {e : Effect} {st : State} → Small h e → h .context ≡ st .context → h .count ≡ st .count → Fits st e
 fits-small {h} {e} {st} s c d = record { gained = rw (← c) (s .gained); counted = rw (← d) (s .counted); taken = s .taken }
 
--- a token that does not ask for the tokens ahead has the same effect before any
-blind : (b : Bracket) (q : ℕ) (k : TokenType) (h : Here) (x y : Ahead) → asksAhead k ≡ false → insideOf b q k h x ≡ insideOf b q k h y
-blind Opens q k h x y n = refl
-blind Closes q k h x y n = refl
-blind Ends q k h x y n = refl
-blind Other q (type.Note l) h x y n = refl
-blind Other q type.Sharp h x y n = absurd (subst T n tt)
-blind Other q type.Flat h x y n = absurd (subst T n tt)
-blind Other q type.Aug h x y n = absurd (subst T n tt)
-blind Other q type.Dim h x y n = refl
-blind Other q type.Dim7 h x y n = refl
-blind Other q type.HalfDim h x y n = refl
-blind Other q (type.Extension m) h x y n = refl
-blind Other q type.Add h x y n = absurd (subst T n tt)
-blind Other q type.Omit h x y n = absurd (subst T n tt)
-blind Other q type.Alt h x y n = refl
-blind Other q type.Sus h x y n = absurd (subst T n tt)
-blind Other q type.Minor h x y n = refl
-blind Other q type.Hyphen h x y n = absurd (subst T n tt)
-blind Other q type.Maj h x y n = refl
-blind Other q type.Maj7 h x y n = refl
-blind Other q type.Slash h x y n = absurd (subst T n tt)
-blind Other q type.LParent h x y n = refl
-blind Other q type.RParent h x y n = refl
-blind Other q type.Comma h x y n = refl
-blind Other q type.Bass h x y n = refl
-blind Other q type.Illegal h x y n = refl
-blind Other q type.Eof h x y n = refl
-
--- and one that asks is told
-seen : (b : Bracket) (q : ℕ) (k : TokenType) (h : Here) (x y : Ahead) → (asksAhead k ≡ true → x ≡ y) → insideOf b q k h x ≡ insideOf b q k h y
-seen b q k h x y f = by (asksAhead k) refl
-  where
-    by : (c : Bool) → asksAhead k ≡ c → insideOf b q k h x ≡ insideOf b q k h y
-    by true e = ap (λ (a : Ahead). insideOf b q k h a) (f e)
-    by false e = blind b q k h x y e
+-- a token has the same effect before all tokens ahead that tell it what it asks for
+told : (b : Bracket) (q : ℕ) (k : TokenType) (h : Here) {x y : Ahead} → Foreseen (reachOf k) y x → insideOf b q k h x ≡ insideOf b q k h y
+told Opens q k h f = refl
+told Closes q k h f = refl
+told Ends q k h f = refl
+told Other q (type.Note l) h f = refl
+told Other q type.Sharp h f = ap (modifierStep Sharp h) (f .next refl)
+told Other q type.Flat h f = ap (modifierStep Flat h) (f .next refl)
+told Other q type.Aug h f = ap (augStep h) (f .next refl)
+told Other q type.Dim h f = refl
+told Other q type.Dim7 h f = refl
+told Other q type.HalfDim h f = refl
+told Other q (type.Extension m) h f = refl
+told Other q type.Add h f = ap (addStep h) (f .all refl)
+told Other q type.Omit h f = ap (omitStep h) (f .next refl)
+told Other q type.Alt h f = refl
+told Other q type.Sus h f = ap (susStep h) (f .next refl)
+told Other q type.Minor h f = refl
+told Other q type.Hyphen h f = ap (hyphenStep h) (f .next refl)
+told Other q type.Maj h f = refl
+told Other q type.Maj7 h f = refl
+told Other q type.Slash h f = ap (slashStep h) (f .all refl)
+told Other q type.LParent h f = refl
+told Other q type.RParent h f = refl
+told Other q type.Comma h f = refl
+told Other q type.Bass h f = refl
+told Other q type.Illegal h f = refl
+told Other q type.Eof h f = refl
 
 module _ (ks ps ls xs : List ℕ) (st : State) where
   abbrev K : TokenType
   K = typeOf (getD ks (st .at) 0)
 
-  pub effect-at : (b : Bracket) (q : ℕ) {k : TokenType} {h : Here} {a : Ahead} {r : Effect} → k ≡ K → h ≡ hereIn ps ls xs st → (asksAhead k ≡ true → a ≡ aheadIn ks ps (st .at + 1)) → r ≡ insideOf b q k h a → (r ≡ effectIn ks ps ls xs st b q) × Fits st r
+  pub effect-at : (b : Bracket) (q : ℕ) {k : TokenType} {h : Here} {a : Ahead} {r : Effect} → k ≡ K → h ≡ hereIn ps ls xs st → Foreseen (reachOf k) (aheadIn ks ps (st .at + 1)) a → r ≡ insideOf b q k h a → (r ≡ effectIn ks ps ls xs st b q) × Fits st r
   effect-at b q {k} {h} {a} {r} ek eh ea er =
-      let e : r ≡ effectIn ks ps ls xs st b q = er ∙ seen b q k h a (aheadIn ks ps (st .at + 1)) ea ∙ (λ i. insideOf b q (ek i) (eh i) (aheadIn ks ps (st .at + 1))) in
+      let e : r ≡ effectIn ks ps ls xs st b q = er ∙ told b q k h ea ∙ (λ i. insideOf b q (ek i) (eh i) (aheadIn ks ps (st .at + 1))) in
       (e, subst (Fits st) (sym e) (fits-small (inside-small b q K (hereIn ps ls xs st) (aheadIn ks ps (st .at + 1))) refl refl))
 
 -- the root is the first token

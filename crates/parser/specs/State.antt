@@ -1,5 +1,5 @@
 -- The parser's state as values: what the code's struct and its lent arrays stand for, and what the code keeps true of them.
-use mathlib.Core.Bool.{Bool, true, false, cond}
+use mathlib.Core.Bool.{Bool, false, cond}
 use mathlib.Core.List.{List, [], _∷_, _++_, map}
 use mathlib.Core.Path.{_≡_}
 use Prim.Native.Nat.{ℕ, _+_, _*_, _≤_, _<_}
@@ -60,31 +60,36 @@ stackBy inside q stk = cond inside (q ∷ stk) []
 abbrev pub effectIn : List ℕ → List ℕ → List ℕ → List ℕ → State → Bracket → ℕ → Effect
 effectIn ks ps ls xs st b q = insideOf b q (typeOf (getD ks (st .at) 0)) (hereIn ps ls xs st) (aheadIn ks ps (st .at + 1))
 
--- does the effect of such a token depend on the tokens behind it?
-abbrev pub asksAhead : TokenType → Bool
-asksAhead (type.Note l) = false
-asksAhead type.Sharp = true
-asksAhead type.Flat = true
-asksAhead type.Aug = true
-asksAhead type.Dim = false
-asksAhead type.Dim7 = false
-asksAhead type.HalfDim = false
-asksAhead (type.Extension n) = false
-asksAhead type.Add = true
-asksAhead type.Omit = true
-asksAhead type.Alt = false
-asksAhead type.Sus = true
-asksAhead type.Minor = false
-asksAhead type.Hyphen = true
-asksAhead type.Maj = false
-asksAhead type.Maj7 = false
-asksAhead type.Slash = true
-asksAhead type.LParent = false
-asksAhead type.RParent = false
-asksAhead type.Comma = false
-asksAhead type.Bass = false
-asksAhead type.Illegal = false
-asksAhead type.Eof = false
+-- how many of the tokens behind it the effect of such a token depends on
+abbrev pub reachOf : TokenType → ℕ
+reachOf (type.Note l) = 0
+reachOf type.Sharp = 1
+reachOf type.Flat = 1
+reachOf type.Aug = 1
+reachOf type.Dim = 0
+reachOf type.Dim7 = 0
+reachOf type.HalfDim = 0
+reachOf (type.Extension n) = 0
+reachOf type.Add = 3
+reachOf type.Omit = 1
+reachOf type.Alt = 0
+reachOf type.Sus = 1
+reachOf type.Minor = 0
+reachOf type.Hyphen = 1
+reachOf type.Maj = 0
+reachOf type.Maj7 = 0
+reachOf type.Slash = 3
+reachOf type.LParent = 0
+reachOf type.RParent = 0
+reachOf type.Comma = 0
+reachOf type.Bass = 0
+reachOf type.Illegal = 0
+reachOf type.Eof = 0
+
+-- r tells of the tokens ahead what a token of that reach asks for
+pub record Foreseen (reach : ℕ) (ahead r : Ahead) : Type 0 where
+  pub next : reach ≡ 1 → r .first ≡ ahead .first
+  pub all : reach ≡ 3 → r ≡ ahead
 
 -- the parser's state before the first token
 abbrev pub start : State

@@ -1,12 +1,12 @@
 // The parser's state between tokens, and what the token step wants to know of it and of the tokens ahead.
-ghost use mathlib.Core.Bool.{true, false};
+ghost use mathlib.Core.Bool.{false};
 ghost use mathlib.Core.Path.{_≡_};
 ghost use Prim.Native.Nat.{_+_, _≤_, _<_};
 ghost use lib.ListN.{length, getD};
 ghost use lib.Signed.{mag};
 ghost use Rattle.expression.specs.Expression.{expOf};
 ghost use Rattle.parser.specs.Parser.{isSix, lastSix};
-ghost use Rattle.parser.specs.State.{nextIn, aheadIn, asksAhead, expsOf, hereIn};
+ghost use Rattle.parser.specs.State.{nextIn, aheadIn, reachOf, Foreseen, expsOf, hereIn};
 use behind::Ahead;
 use behind::Next;
 use behind::next_of;
@@ -74,38 +74,49 @@ fn ahead_at(kinds: &[u8], poss: &[u16], i: usize) -> Ahead
     }
 }
 
-// Does the effect of such a token depend on the tokens behind it?
-fn asks_ahead(kind: TokenType) -> bool
-    ensures { λ r. ⌜ r ≡ asksAhead kind ⌝ }
+// How many of the tokens behind it the effect of such a token depends on.
+fn reach(kind: TokenType) -> u8
+    ensures { λ r. ⌜ r ≡ reachOf kind ⌝ }
 {
     match kind {
-        TokenType::Sharp => true,
-        TokenType::Flat => true,
-        TokenType::Aug => true,
-        TokenType::Add => true,
-        TokenType::Omit => true,
-        TokenType::Sus => true,
-        TokenType::Hyphen => true,
-        TokenType::Slash => true,
-        _ => false,
+        TokenType::Sharp => 1,
+        TokenType::Flat => 1,
+        TokenType::Aug => 1,
+        TokenType::Add => 3,
+        TokenType::Omit => 1,
+        TokenType::Sus => 1,
+        TokenType::Hyphen => 1,
+        TokenType::Slash => 3,
+        _ => 0,
     }
 }
 
-// The three tokens from i on, for a token that asks for them; most do not, and looking takes time.
-pub(crate) fn ahead_of(kind: TokenType, kinds: &[u8], poss: &[u16], i: usize) -> Ahead
-    requires { ⌜ i ≤ 300 ⌝ }
-    ensures { λ r. ⌜ (asksAhead kind ≡ true → r ≡ aheadIn (now (kinds .entry)) (now (poss .entry)) i) ⌝ }
+// Nothing behind the token `first` is told.
+fn only(first: Next) -> Ahead
+    ensures { λ r. ⌜ r .first ≡ first ⌝ }
 {
-    if asks_ahead(kind) {
-        return ahead_at(kinds, poss, i);
-    }
     Ahead {
-        first: Next::Other,
+        first,
         second: Next::Other,
         third: Next::Other,
         pos: 0,
         pos2: 0,
     }
+}
+
+// The tokens from i on, as far as a token of this type asks for them; most ask for none, and looking takes time.
+pub(crate) fn ahead_of(kind: TokenType, kinds: &[u8], poss: &[u16], i: usize) -> Ahead
+    requires { ⌜ i ≤ 300 ⌝ }
+    ensures { λ r. ⌜ Foreseen (reachOf kind) (aheadIn (now (kinds .entry)) (now (poss .entry)) i) r ⌝ }
+{
+    let n = reach(kind);
+    if n == 0 {
+        return only(Next::Other);
+    }
+    if n == 1 {
+        return only(next_at(kinds, i));
+    }
+    ahead_at(kinds, poss, i)
 }
 
 // The number of the extension 6: kind 11 and interval 11.

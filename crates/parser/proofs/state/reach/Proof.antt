@@ -1,5 +1,4 @@
 -- Each arm is the definition at that type, and so is the last at the other types.
-use mathlib.Core.Bool.{false}
 use mathlib.Core.List.{List, [], _∷_}
 use mathlib.Core.Path.{_≡_, refl, sym, ap}
 use Prim.Native.Nat.{ℕ}
@@ -9,14 +8,14 @@ use types.Run.{OneOf, miss}
 use Rattle.token.proofs.TokenType.{the-type}
 use Rattle.token.specs.declared.TokenType.the-variants as type
 use Rattle.token.specs.declared.TokenType.{TokenType}
-use Rattle.parser.specs.State.{asksAhead}
-use Rattle.parser.proofs.state.asks_ahead.Statement.{statement}
-use Rattle.parser.proofs.state.asks_ahead.Tie as tie
+use Rattle.parser.specs.State.{reachOf}
+use Rattle.parser.proofs.state.reach.Statement.{statement}
+use Rattle.parser.proofs.state.reach.Tie as tie
 
 abbrev others : List ℕ
 others = 0 ∷ 4 ∷ 5 ∷ 6 ∷ 7 ∷ 10 ∷ 12 ∷ 14 ∷ 15 ∷ 17 ∷ 18 ∷ 19 ∷ 20 ∷ 21 ∷ 22 ∷ []
 
-rest : (k : TokenType) → OneOf others (tagOf the-type k) → false ≡ asksAhead k
+rest : (k : TokenType) → OneOf others (tagOf the-type k) → 0 ≡ reachOf k
 rest (type.Note l) o = refl
 rest type.Sharp o = absurd (miss others 1 tt o)
 rest type.Flat o = absurd (miss others 2 tt o)
@@ -66,34 +65,34 @@ enum-told-8 : tie.Need-enum-told-8
 enum-told-8 c = search needs
 
 returns : tie.Need-returns
-returns c = sym (ap asksAhead (c .enum-told .given .1))
+returns c = sym (ap reachOf (c .enum-told .given .1))
 
 returns-2 : tie.Need-returns-2
-returns-2 c = sym (ap asksAhead (c .enum-told2 .given .1))
+returns-2 c = sym (ap reachOf (c .enum-told2 .given .1))
 
 returns-3 : tie.Need-returns-3
-returns-3 c = sym (ap asksAhead (c .enum-told3 .given .1))
+returns-3 c = sym (ap reachOf (c .enum-told3 .given .1))
 
 returns-4 : tie.Need-returns-4
-returns-4 c = sym (ap asksAhead (c .enum-told4 .given .1))
+returns-4 c = sym (ap reachOf (c .enum-told4 .given .1))
 
 returns-5 : tie.Need-returns-5
-returns-5 c = sym (ap asksAhead (c .enum-told5 .given .1))
+returns-5 c = sym (ap reachOf (c .enum-told5 .given .1))
 
 returns-6 : tie.Need-returns-6
-returns-6 c = sym (ap asksAhead (c .enum-told6 .given .1))
+returns-6 c = sym (ap reachOf (c .enum-told6 .given .1))
 
 returns-7 : tie.Need-returns-7
-returns-7 c = sym (ap asksAhead (c .enum-told7 .given .1))
+returns-7 c = sym (ap reachOf (c .enum-told7 .given .1))
 
 returns-8 : tie.Need-returns-8
-returns-8 c = sym (ap asksAhead (c .enum-told8 .given .1))
+returns-8 c = sym (ap reachOf (c .enum-told8 .given .1))
 
 returns-9 : tie.Need-returns-9
 returns-9 c = rest (c .before .args .kind) (c .match .keys9)
 
-pub asks-ahead-spec : {M : Type 1} → statement M
-asks-ahead-spec =
+pub reach-spec : {M : Type 1} → statement M
+reach-spec =
     tie.close
     (tie.spec
     enum-told
