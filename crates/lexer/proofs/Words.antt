@@ -1,7 +1,7 @@
 -- The word list: the lent tables hold it row by row, and one turn of each loop over it is a step of the definition.
 -- Assumes nothing.
 use mathlib.Core.Bool.{Bool, true, false, _&&_}
-use mathlib.Core.List.{List, [], _∷_, map}
+use mathlib.Core.List.{List, [], _∷_, map, zipWith}
 use mathlib.Core.Path.{_≡_, refl, ap, _∙_}
 use Prim.Native.Nat.{ℕ, zero, suc, _+_, _≤_, _<_}
 use native.Mathlib.Numerals.{add-one}
@@ -10,7 +10,7 @@ use lib.Dec.{T, eqb, leb, leb→le}
 use lib.ListN.{length, getD, drop, drop-of-length-le, List·getD-append}
 use lib.Seq.{drop-cons}
 use Rattle.utf8.specs.Utf8.{begins}
-use Rattle.lexer.specs.State.{padded, wordAt}
+use Rattle.lexer.specs.State.{Tables, padded, info, nextsFrom, nextPlaces, wordAt}
 use Rattle.lexer.specs.Words.{Word, word, words, better, longestOf}
 use Rattle.lexer.specs.declared.Match.{Match}
 
@@ -18,6 +18,13 @@ at-map : {A : Type 0} (f : Word → A) (l : List Word) (i : ℕ) (d : Word) (e :
 at-map f [] i d e h = absurd (omega arith)
 at-map f (w ∷ l) zero d e h = refl
 at-map f (w ∷ l) (suc i) d e h = at-map f l i d e (omega arith)
+
+at-zip : {A : Type 0} (f : Word → ℕ → A) (l : List Word) (ns : List ℕ) (i : ℕ) (d : Word) (e : A) → i < length l → i < length ns → getD (zipWith f l ns) i e ≡ f (getD l i d) (getD ns i 0)
+unfolding zipWith
+at-zip f [] ns i d e h k = absurd (omega arith)
+at-zip f (w ∷ l) [] i d e h k = absurd (omega arith)
+at-zip f (w ∷ l) (n ∷ ns) zero d e h k = refl
+at-zip f (w ∷ l) (n ∷ ns) (suc i) d e h k = at-zip f l ns i d e (omega arith) (omega arith)
 
 fits : List Word → Bool
 fits [] = true
@@ -46,6 +53,11 @@ words-fit : T (fits words)
 unfolding words fits
 words-fit = tt
 
+-- and as many next places
+nexts-count : length nextPlaces ≡ 55
+unfolding words nextsFrom
+nexts-count = refl
+
 module _ (i : ℕ) (h : i < 55) where
   in-list : i < length words
   in-list = omega (arith, words-count)
@@ -59,11 +71,9 @@ module _ (i : ℕ) (h : i < 55) where
       ap (λ l. getD l j 0) (at-map padded words i (word [] 0) [] in-list)
       ∙ List·getD-append (wordAt i .text) _ 0 j k
 
-  pub size-is : getD (map (λ w. length (w .text)) words) i 0 ≡ length (wordAt i .text)
-  size-is = at-map (λ w. length (w .text)) words i (word [] 0) 0 in-list
-
-  pub type-is : getD (map (λ w. w .kind) words) i 0 ≡ wordAt i .kind
-  type-is = at-map (λ w. w .kind) words i (word [] 0) 0 in-list
+  -- the row of a word: its length, its type's number and its next place
+  pub info-is : {ws is : List (List ℕ)} → Tables ws is → (j : ℕ) → getD (getD is i []) j 0 ≡ getD (info (wordAt i) (getD nextPlaces i 0)) j 0
+  info-is t j = ap (λ l. getD (getD l i []) j 0) (t .infos) ∙ ap (λ l. getD l j 0) (at-zip info words nextPlaces i (word [] 0) [] in-list (omega (arith, nexts-count)))
 
   -- one word
   pub longest-turn : (s : List ℕ) (m : Match) → longestOf (drop i words) s m ≡ longestOf (drop (i + 1) words) s (better s (wordAt i) m)

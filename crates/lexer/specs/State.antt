@@ -1,6 +1,6 @@
 -- What the lexer's code keeps while it scans: the lent tables, the place it has come to, and what one step adds.
 use mathlib.Core.Bool.{true, false, cond}
-use mathlib.Core.List.{List, [], _∷_, _++_, map}
+use mathlib.Core.List.{List, [], _∷_, _++_, map, zipWith}
 use mathlib.Core.Path.{_≡_}
 use Prim.Native.Nat.{ℕ, suc, _+_, _≤_}
 use lib.Dec.{eqb}
@@ -18,12 +18,6 @@ use Rattle.lexer.specs.declared.Scan.{Scan}
 abbrev pub padded : Word → List ℕ
 padded w = w .text ++ drop (length (w .text)) (0 ∷ 1 ∷ 2 ∷ 3 ∷ 4 ∷ 5 ∷ 6 ∷ 7 ∷ 8 ∷ 9 ∷ [])
 
--- the lent tables hold the word list
-pub record Tables (ws : List (List ℕ)) (ns ks : List ℕ) : Type 0 where
-  pub texts : ws ≡ map padded words
-  pub sizes : ns ≡ map (λ (w : Word). length (w .text)) words
-  pub types : ks ≡ map (λ (w : Word). w .kind) words
-
 -- the place in a list of the first word that begins with b; the list's length where there is none
 unfoldable pub firstPlace : ℕ → List Word → ℕ
 firstPlace b [] = 0
@@ -36,6 +30,15 @@ nextsFrom i (w ∷ ws) = (i + 1 + firstPlace (getD (w .text) 0 0) ws) ∷ nextsF
 
 abbrev pub nextPlaces : List ℕ
 nextPlaces = nextsFrom 0 words
+
+-- what is kept of a word beside its letters: its length, its type's number and the place of the next word
+abbrev pub info : Word → ℕ → List ℕ
+info w n = length (w .text) ∷ w .kind ∷ n ∷ []
+
+-- the lent tables hold the word list, and a row for each word and its next place
+pub record Tables (ws is : List (List ℕ)) : Type 0 where
+  pub texts : ws ≡ map padded words
+  pub infos : is ≡ zipWith info words nextPlaces
 
 abbrev pub wordAt : ℕ → Word
 wordAt i = getD words i (word [] 0)

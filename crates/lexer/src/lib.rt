@@ -7,7 +7,7 @@ ghost use Rattle.token.specs.Token.{token as tokenOf, rows, Room};
 ghost use Rattle.utf8.specs.Utf8.{begins};
 ghost use Rattle.lexer.specs.Words.{words as wordList, better as betterOf, longest as longestOf};
 ghost use Rattle.lexer.specs.Lexer.{isLetter, isDigit, signOf, signHead, wordHead, elem, twoDigits, oneDigit, numberHead, digitAt, headBy, headOf, sizeOf, lex};
-ghost use Rattle.lexer.specs.State.{Tables, firstPlace, nextPlaces, padded, wordAt, scan, plan, planOf, Inserted, Emitted, Written, Scanned};
+ghost use Rattle.lexer.specs.State.{Tables, firstPlace, padded, wordAt, scan, plan, planOf, Inserted, Emitted, Written, Scanned};
 ghost use Rattle.utf8.specs.declared.Found.the-variants as utf8;
 use utf8::Found;
 
@@ -15,8 +15,8 @@ const ILLEGAL: u8 = 21;
 
 const EOF: u8 = 22;
 
-// The words of `from_string`, as rows of ten bytes, their lengths and the numbers of their types. What fills a row is not looked at; it counts the
-// places, since a run of equal bytes in a table takes three times as long to set up.
+// The words of `from_string`, as rows of ten bytes. What fills a row is not looked at; it counts the places, since a run of equal bytes in
+// a table takes three times as long to set up.
 pub const WORDS: [[u8; 10]; 55] = [
     [66, 65, 83, 83, 4, 5, 6, 7, 8, 9],
     [66, 97, 115, 115, 4, 5, 6, 7, 8, 9],
@@ -75,179 +75,63 @@ pub const WORDS: [[u8; 10]; 55] = [
     [71, 1, 2, 3, 4, 5, 6, 7, 8, 9],
 ];
 
-pub const SIZES: [u8; 55] = [
-    4,
-    4,
-    4,
-    3,
-    3,
-    3,
-    5,
-    5,
-    5,
-    2,
-    2,
-    2,
-    1,
-    3,
-    3,
-    3,
-    5,
-    5,
-    5,
-    2,
-    2,
-    2,
-    1,
-    1,
-    3,
-    3,
-    3,
-    3,
-    3,
-    3,
-    10,
-    3,
-    3,
-    3,
-    3,
-    3,
-    3,
-    3,
-    3,
-    3,
-    1,
-    1,
-    4,
-    4,
-    4,
-    2,
-    2,
-    2,
-    1,
-    1,
-    1,
-    1,
-    1,
-    1,
-    1,
-];
-
-pub const TYPES: [u8; 55] = [
-    20,
-    20,
-    20,
-    14,
-    14,
-    14,
-    14,
-    14,
-    14,
-    14,
-    14,
-    14,
-    14,
-    12,
-    12,
-    12,
-    12,
-    12,
-    12,
-    12,
-    12,
-    12,
-    12,
-    2,
-    11,
-    11,
-    11,
-    4,
-    4,
-    4,
-    4,
-    10,
-    10,
-    10,
-    3,
-    3,
-    3,
-    8,
-    8,
-    8,
-    4,
-    4,
-    9,
-    9,
-    9,
-    9,
-    9,
-    9,
-    69,
-    70,
-    64,
-    65,
-    66,
-    67,
-    68,
-];
-
-// For each word the place of the next one with the same first letter, 55 for none.
-pub const NEXTS: [u8; 55] = [
-    1,
-    49,
-    23,
-    4,
-    6,
-    8,
-    7,
-    9,
-    11,
-    10,
-    12,
-    15,
-    13,
-    14,
-    16,
-    18,
-    17,
-    19,
-    21,
-    20,
-    55,
-    22,
-    55,
-    55,
-    25,
-    55,
-    55,
-    28,
-    51,
-    30,
-    55,
-    32,
-    34,
-    36,
-    35,
-    37,
-    39,
-    38,
-    48,
-    55,
-    42,
-    44,
-    43,
-    55,
-    55,
-    46,
-    55,
-    55,
-    55,
-    55,
-    55,
-    55,
-    55,
-    55,
-    55,
+// For each word its length, the number of its type, and the place of the next one with the same first letter, 55 for none.
+pub const INFOS: [[u8; 3]; 55] = [
+    [4, 20, 1],
+    [4, 20, 49],
+    [4, 20, 23],
+    [3, 14, 4],
+    [3, 14, 6],
+    [3, 14, 8],
+    [5, 14, 7],
+    [5, 14, 9],
+    [5, 14, 11],
+    [2, 14, 10],
+    [2, 14, 12],
+    [2, 14, 15],
+    [1, 14, 13],
+    [3, 12, 14],
+    [3, 12, 16],
+    [3, 12, 18],
+    [5, 12, 17],
+    [5, 12, 19],
+    [5, 12, 21],
+    [2, 12, 20],
+    [2, 12, 55],
+    [2, 12, 22],
+    [1, 12, 55],
+    [1, 2, 55],
+    [3, 11, 25],
+    [3, 11, 55],
+    [3, 11, 55],
+    [3, 4, 28],
+    [3, 4, 51],
+    [3, 4, 30],
+    [10, 4, 55],
+    [3, 10, 32],
+    [3, 10, 34],
+    [3, 10, 36],
+    [3, 3, 35],
+    [3, 3, 37],
+    [3, 3, 39],
+    [3, 8, 38],
+    [3, 8, 48],
+    [3, 8, 55],
+    [1, 4, 42],
+    [1, 4, 44],
+    [4, 9, 43],
+    [4, 9, 55],
+    [4, 9, 55],
+    [2, 9, 46],
+    [2, 9, 55],
+    [2, 9, 55],
+    [1, 69, 55],
+    [1, 70, 55],
+    [1, 64, 55],
+    [1, 65, 55],
+    [1, 66, 55],
+    [1, 67, 55],
+    [1, 68, 55],
 ];
 
 // The longest word so far: its length, 0 for none, and the number of its type.
@@ -296,6 +180,14 @@ fn letter(words: &[[u8; 10]; 55], i: usize, j: usize) -> u8
     words[i][j]
 }
 
+// Entry j of the row of word i: its length, the number of its type, or the place of the next word.
+fn info(infos: &[[u8; 3]; 55], i: usize, j: usize) -> u8
+    requires { ⌜ (i < 55) × (j < 3) ⌝ }
+    ensures { λ r. ⌜ r ≡ getD (getD (now (infos .entry)) i []) j 0 ⌝ }
+{
+    infos[i][j]
+}
+
 // Does word i, of n letters, stand at a place of the text?
 fn matches(words: &[[u8; 10]; 55], i: usize, n: usize, text: &[u8], at: usize) -> bool
     requires { ⌜ (now words ≡ map padded wordList) × (i < 55) × (n ≡ length (wordAt i .text)) × (at ≤ length (now text)) ⌝ }
@@ -318,24 +210,23 @@ fn matches(words: &[[u8; 10]; 55], i: usize, n: usize, text: &[u8], at: usize) -
 // Word i in place of m, where it stands at a place of the text and is longer.
 fn better(
     words: &[[u8; 10]; 55],
-    sizes: &[u8; 55],
-    types: &[u8; 55],
+    infos: &[[u8; 3]; 55],
     text: &[u8],
     at: usize,
     i: usize,
     m: Match,
 ) -> Match
-    requires { ⌜ Tables (now words) (now sizes) (now types) × (i < 55) × (at ≤ length (now text)) ⌝ }
+    requires { ⌜ Tables (now words) (now infos) × (i < 55) × (at ≤ length (now text)) ⌝ }
     ensures { λ r. ⌜ r ≡ betterOf (drop at (now (text .entry))) (wordAt i) m ⌝ }
 {
-    let n = wide(sizes[i]);
+    let n = wide(info(infos, i, 0));
     if n <= m.len {
         return m;
     }
     if matches(words, i, n, text, at) {
         return Match {
             len: n,
-            kind: types[i],
+            kind: info(infos, i, 1),
         };
     }
     m
@@ -369,15 +260,8 @@ fn first_word(b: u8) -> usize
 }
 
 // The longest word that stands at a place of the text: only words with the letter that is there are tried.
-fn longest(
-    words: &[[u8; 10]; 55],
-    sizes: &[u8; 55],
-    types: &[u8; 55],
-    nexts: &[u8; 55],
-    text: &[u8],
-    at: usize,
-) -> Match
-    requires { ⌜ Tables (now words) (now sizes) (now types) × (at < length (now text)) × (now nexts ≡ nextPlaces) ⌝ }
+fn longest(words: &[[u8; 10]; 55], infos: &[[u8; 3]; 55], text: &[u8], at: usize) -> Match
+    requires { ⌜ Tables (now words) (now infos) × (at < length (now text)) ⌝ }
     ensures { λ r. ⌜ r ≡ longestOf (drop at (now (text .entry))) ⌝ }
 {
     let mut m = Match {
@@ -386,8 +270,8 @@ fn longest(
     };
     let mut i = first_word(text[at]);
     while i < 55 {
-        m = better(words, sizes, types, text, at, i, m);
-        i = wide(nexts[i]);
+        m = better(words, infos, text, at, i, m);
+        i = wide(info(infos, i, 2));
     }
     m
 }
@@ -520,19 +404,17 @@ fn number_head(d: u8, e: u8) -> Head
 // What the character c, of n bytes, begins at a place of the text.
 fn head_by(
     words: &[[u8; 10]; 55],
-    sizes: &[u8; 55],
-    types: &[u8; 55],
-    nexts: &[u8; 55],
+    infos: &[[u8; 3]; 55],
     text: &[u8],
     at: usize,
     c: u32,
     n: usize,
 ) -> Head
-    requires { ⌜ Tables (now words) (now sizes) (now types) × (at < length (now text)) × (now nexts ≡ nextPlaces) ⌝ }
+    requires { ⌜ Tables (now words) (now infos) × (at < length (now text)) ⌝ }
     ensures { λ r. ⌜ r ≡ headBy (utf8.Char c n) (drop at (now (text .entry))) ⌝ }
 {
     if is_letter(c) {
-        return word_head(longest(words, sizes, types, nexts, text, at));
+        return word_head(longest(words, infos, text, at));
     }
     if is_digit(c) {
         return number_head(digit_at(text, at), digit_at(text, at + 1));
@@ -544,19 +426,12 @@ fn head_by(
 }
 
 // What stands at a place of the text.
-fn head_at(
-    words: &[[u8; 10]; 55],
-    sizes: &[u8; 55],
-    types: &[u8; 55],
-    nexts: &[u8; 55],
-    text: &[u8],
-    at: usize,
-) -> Head
-    requires { ⌜ Tables (now words) (now sizes) (now types) × (at < length (now text)) × (now nexts ≡ nextPlaces) ⌝ }
+fn head_at(words: &[[u8; 10]; 55], infos: &[[u8; 3]; 55], text: &[u8], at: usize) -> Head
+    requires { ⌜ Tables (now words) (now infos) × (at < length (now text)) ⌝ }
     ensures { λ r. ⌜ r ≡ headOf (drop at (now (text .entry))) ⌝ }
 {
     match utf8::char_at(text, at) {
-        Found::Char(c, n) => head_by(words, sizes, types, nexts, text, at, c, n),
+        Found::Char(c, n) => head_by(words, infos, text, at, c, n),
         Found::Bad => Head::Word(ILLEGAL, 1),
         Found::End => Head::Word(ILLEGAL, 1),
     }
@@ -647,15 +522,13 @@ fn emit(kinds: &mut [u8], poss: &mut [u16], lens: &mut [u16], h: Head, s: Scan) 
 // Writes the tokens of a text, its word list lent; their number is returned.
 fn scan_text(
     words: &[[u8; 10]; 55],
-    sizes: &[u8; 55],
-    types: &[u8; 55],
-    nexts: &[u8; 55],
+    infos: &[[u8; 3]; 55],
     text: &[u8],
     kinds: &mut [u8],
     poss: &mut [u16],
     lens: &mut [u16],
 ) -> usize
-    requires { ⌜ Tables (now words) (now sizes) (now types) × (length (now text) ≤ 256) × Room (length (now text)) (now kinds) (now poss) (now lens) × (now nexts ≡ nextPlaces) ⌝ }
+    requires { ⌜ Tables (now words) (now infos) × (length (now text) ≤ 256) × Room (length (now text)) (now kinds) (now poss) (now lens) ⌝ }
     ensures { λ r. ⌜ Written (lex 0 [] 0 (now (text .entry))) r (rows (now (kinds .entry)) (now (poss .entry)) (now (lens .entry))) (rows (now (kinds .exit)) (now (poss .exit)) (now (lens .exit))) × (r ≤ length (now (text .entry))) ⌝ }
 {
     let mut s = Scan {
@@ -665,7 +538,7 @@ fn scan_text(
     };
     while s.at < text.len() {
         let at = s.at;
-        let h = head_at(words, sizes, types, nexts, text, at);
+        let h = head_at(words, infos, text, at);
         s = emit(kinds, poss, lens, h, s);
     }
     s.count
@@ -674,18 +547,16 @@ fn scan_text(
 // The same, with End after them.
 fn scan_to_end(
     words: &[[u8; 10]; 55],
-    sizes: &[u8; 55],
-    types: &[u8; 55],
-    nexts: &[u8; 55],
+    infos: &[[u8; 3]; 55],
     text: &[u8],
     kinds: &mut [u8],
     poss: &mut [u16],
     lens: &mut [u16],
 ) -> usize
-    requires { ⌜ Tables (now words) (now sizes) (now types) × (length (now text) ≤ 256) × Room (length (now text) + 1) (now kinds) (now poss) (now lens) × (now nexts ≡ nextPlaces) ⌝ }
+    requires { ⌜ Tables (now words) (now infos) × (length (now text) ≤ 256) × Room (length (now text) + 1) (now kinds) (now poss) (now lens) ⌝ }
     ensures { λ r. ⌜ Scanned (now (text .entry)) r (rows (now (kinds .entry)) (now (poss .entry)) (now (lens .entry))) (rows (now (kinds .exit)) (now (poss .exit)) (now (lens .exit))) ⌝ }
 {
-    let n = scan_text(words, sizes, types, nexts, text, kinds, poss, lens);
+    let n = scan_text(words, infos, text, kinds, poss, lens);
     let end = text.len() + 1;
     token::put(kinds, poss, lens, n, EOF, end as u16, 0);
     n + 1
@@ -698,8 +569,6 @@ pub fn scan_tokens(text: &[u8], kinds: &mut [u8], poss: &mut [u16], lens: &mut [
     ensures { λ r. ⌜ Scanned (now (text .entry)) r (rows (now (kinds .entry)) (now (poss .entry)) (now (lens .entry))) (rows (now (kinds .exit)) (now (poss .exit)) (now (lens .exit))) ⌝ }
 {
     let words = WORDS;
-    let sizes = SIZES;
-    let types = TYPES;
-    let nexts = NEXTS;
-    scan_to_end(&words, &sizes, &types, &nexts, text, kinds, poss, lens)
+    let infos = INFOS;
+    scan_to_end(&words, &infos, text, kinds, poss, lens)
 }

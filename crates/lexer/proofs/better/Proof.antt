@@ -1,18 +1,18 @@
 -- The tables say what the word is; the two tests are those of the definition.
 -- Assumes nothing.
-use mathlib.Core.Path.{_≡_, ap, _∙_}
+use mathlib.Core.Path.{_≡_, _∙_}
 use native.Mathlib.Omega.{arith}
-use lib.ListN.{length, getD, drop}
+use lib.ListN.{length, drop}
 use borrow.Author.Needs.{needs}
 use borrow.Author.Tests.{lt-ltb, le-ltb}
 use Rattle.lexer.specs.State.{wordAt}
 use Rattle.lexer.specs.Words.{match}
-use Rattle.lexer.proofs.Words.{size-is, type-is}
+use Rattle.lexer.proofs.Words.{info-is}
 use Rattle.lexer.proofs.better.Statement.{statement}
 use Rattle.lexer.proofs.better.Tie as tie
 
-element-copy-out-wide : tie.Need-element-copy-out-wide
-element-copy-out-wide c = search needs
+info-requires : tie.Need-info-requires
+info-requires c κs = search needs
 
 wide-requires : tie.Need-wide-requires
 wide-requires c κs = search needs
@@ -23,7 +23,7 @@ returns c =
     let p = c .before .before .before .before .before .pre in
     let w = wordAt (a .i) in
     let t = drop (a .at) (a .text .now) in
-    let z : c .before .before .wide .result ≡ length (w .text) = c .before .before .wide .ensures .0 ∙ ap (λ l. getD l (a .i) 0) (p .0 .sizes) ∙ size-is (a .i) (p .1) in
+    let z : c .before .before .wide .result ≡ length (w .text) = c .before .before .wide .ensures .0 ∙ c .before .before .before .info .ensures ∙ info-is (a .i) (p .1) (p .0) 0 in
     rw (le-ltb (a .m .len) (length (w .text)) (omega arith))
 
 matches-requires : tie.Need-matches-requires
@@ -31,11 +31,11 @@ matches-requires c κs =
     let a = c .before .before .before .before .before .args in
     let p = c .before .before .before .before .before .pre in
     let w = wordAt (a .i) in
-    let z : c .before .before .wide .result ≡ length (w .text) = c .before .before .wide .ensures .0 ∙ ap (λ l. getD l (a .i) 0) (p .0 .sizes) ∙ size-is (a .i) (p .1) in
+    let z : c .before .before .wide .result ≡ length (w .text) = c .before .before .wide .ensures .0 ∙ c .before .before .before .info .ensures ∙ info-is (a .i) (p .1) (p .0) 0 in
     (p .0 .texts, p .1, z, p .2)
 
-element-copy-out-t16 : tie.Need-element-copy-out-t16
-element-copy-out-t16 c = search needs
+info-requires-2 : tie.Need-info-requires-2
+info-requires-2 c κs = search needs
 
 returns-2 : tie.Need-returns-2
 returns-2 c =
@@ -43,8 +43,8 @@ returns-2 c =
     let p = c .before .before .before .before .before .before .before .before .pre in
     let w = wordAt (a .i) in
     let t = drop (a .at) (a .text .now) in
-    let z : c .before .before .before .before .before .wide .result ≡ length (w .text) = c .before .before .before .before .before .wide .ensures .0 ∙ ap (λ l. getD l (a .i) 0) (p .0 .sizes) ∙ size-is (a .i) (p .1) in
-    let k : getD (a .types .now) (a .i) 0 ≡ w .kind = ap (λ l. getD l (a .i) 0) (p .0 .types) ∙ type-is (a .i) (p .1) in
+    let z : c .before .before .before .before .before .wide .result ≡ length (w .text) = c .before .before .before .before .before .wide .ensures .0 ∙ c .before .before .before .before .before .before .info .ensures ∙ info-is (a .i) (p .1) (p .0) 0 in
+    let k : c .info2 .result ≡ w .kind = c .info2 .ensures ∙ info-is (a .i) (p .1) (p .0) 1 in
     rw (lt-ltb (a .m .len) (length (w .text)) (omega arith), ← c .before .before .matches .ensures, c .before .if2 .taken) (λ i. match (z i) (k i))
 
 returns-3 : tie.Need-returns-3
@@ -53,17 +53,17 @@ returns-3 c =
     let p = c .before .before .before .before .before .before .before .pre in
     let w = wordAt (a .i) in
     let t = drop (a .at) (a .text .now) in
-    let z : c .before .before .before .before .wide .result ≡ length (w .text) = c .before .before .before .before .wide .ensures .0 ∙ ap (λ l. getD l (a .i) 0) (p .0 .sizes) ∙ size-is (a .i) (p .1) in
+    let z : c .before .before .before .before .wide .result ≡ length (w .text) = c .before .before .before .before .wide .ensures .0 ∙ c .before .before .before .before .before .info .ensures ∙ info-is (a .i) (p .1) (p .0) 0 in
     rw (lt-ltb (a .m .len) (length (w .text)) (omega arith), ← c .before .matches .ensures, c .if2 .left)
 
 pub better-spec : {M : Type 1} → statement M
 better-spec =
     tie.close
     (tie.spec
-    element-copy-out-wide
+    info-requires
     wide-requires
     returns
     matches-requires
-    element-copy-out-t16
+    info-requires-2
     returns-2
     returns-3)

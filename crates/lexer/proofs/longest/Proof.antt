@@ -8,14 +8,15 @@ use lib.ListN.{getD, drop}
 use lib.Seq.{getD-drop}
 use borrow.Author.Needs.{needs}
 use Rattle.lexer.proofs.Chains.{Chosen, chosen-start, chosen-step, next-far, chosen-end}
+use Rattle.lexer.proofs.Words.{info-is}
 use Rattle.lexer.proofs.longest.Statement.{statement}
 use Rattle.lexer.proofs.longest.Tie as tie
 
 abbrev Inv-loop : tie.InvT-loop
-Inv-loop words sizes types nexts text at m₀ i₀ m i = Chosen (drop at text) m₀ i m
+Inv-loop words infos text at m₀ i₀ m i = Chosen (drop at text) m₀ i m
 
 abbrev μ-loop : tie.MeasureT-loop
-μ-loop words sizes types nexts text at m₀ i₀ m i = 55 - i
+μ-loop words infos text at m₀ i₀ m i = 55 - i
 
 shared-slice-read-first-word : tie.Need-shared-slice-read-first-word Inv-loop μ-loop
 shared-slice-read-first-word c = search needs
@@ -32,8 +33,8 @@ loop-holds c =
 better-requires : tie.Need-better-requires Inv-loop μ-loop
 better-requires c κs = (c .before .before .before .before .before .pre .0, c .loop-test .taken, omega (arith, c .before .before .before .before .before .pre .1))
 
-element-copy-out-wide : tie.Need-element-copy-out-wide Inv-loop μ-loop
-element-copy-out-wide c = search needs
+info-requires : tie.Need-info-requires Inv-loop μ-loop
+info-requires c κs = search needs
 
 wide-requires : tie.Need-wide-requires Inv-loop μ-loop
 wide-requires c κs = search needs
@@ -42,15 +43,17 @@ loop-less : tie.Need-loop-less Inv-loop μ-loop
 loop-less c =
     let p = c .before .before .before .before .before .before .before .before .pre in
     let i = c .before .before .before .before .loop .i in
-    let e = c .wide .ensures .0 ∙ ap (λ l. getD l i 0) (p .2) in
-    omega (arith, e, next-far i (c .before .before .before .loop-test .taken), c .before .before .before .loop-test .taken)
+    let h = c .before .before .before .loop-test .taken in
+    let e = c .wide .ensures .0 ∙ c .before .info .ensures ∙ info-is i h (p .0) 2 in
+    omega (arith, e, next-far i h, h)
 
 loop-again : tie.Need-loop-again Inv-loop μ-loop
 loop-again c =
     let p = c .before .before .before .before .before .before .before .before .pre in
     let i = c .before .before .before .before .loop .i in
-    let e = c .wide .ensures .0 ∙ ap (λ l. getD l i 0) (p .2) in
-    rw (e, c .before .before .better .ensures) (chosen-step i (c .before .before .before .loop-test .taken) _ _ _ (c .before .before .before .before .loop .inv))
+    let h = c .before .before .before .loop-test .taken in
+    let e = c .wide .ensures .0 ∙ c .before .info .ensures ∙ info-is i h (p .0) 2 in
+    rw (e, c .before .before .better .ensures) (chosen-step i h _ _ _ (c .before .before .before .before .loop .inv))
 
 returns : tie.Need-returns Inv-loop μ-loop
 returns c = chosen-end _ _ _ _ (c .before .loop .inv) (c .loop-test .left)
@@ -65,7 +68,7 @@ longest-spec =
     first-word-requires
     loop-holds
     better-requires
-    element-copy-out-wide
+    info-requires
     wide-requires
     loop-less
     loop-again

@@ -13,19 +13,17 @@ use Rattle.lexer.proofs.scan_text.Tie as tie
 use Rattle.token.proofs.Rows.{rows-room}
 
 abbrev Inv-loop : tie.InvT-loop
-Inv-loop words sizes types nexts text kinds₀ poss₀ lens₀ s₀ kinds poss lens s =
+Inv-loop words infos text kinds₀ poss₀ lens₀ s₀ kinds poss lens s =
     Walked text s (rows kinds₀ poss₀ lens₀) (rows kinds poss lens) × (length kinds ≡ length kinds₀) × (length poss ≡ length poss₀) × (length lens ≡ length lens₀)
 
 abbrev μ-loop : tie.MeasureT-loop
-μ-loop words sizes types nexts text kinds₀ poss₀ lens₀ s₀ kinds poss lens s = length text - s .at
+μ-loop words infos text kinds₀ poss₀ lens₀ s₀ kinds poss lens s = length text - s .at
 
 loop-holds : tie.Need-loop-holds Inv-loop μ-loop
 loop-holds c = (walk-start _ _, refl, refl, refl)
 
 head-at-requires : tie.Need-head-at-requires Inv-loop μ-loop
-head-at-requires c κs =
-    let p = c .before .before .before .before .before .before .before .pre in
-    (p .0, c .if1 .taken, p .3)
+head-at-requires c κs = (c .before .before .before .before .before .before .before .pre .0, c .if1 .taken)
 
 emit-requires : tie.Need-emit-requires Inv-loop μ-loop
 emit-requires c κs =

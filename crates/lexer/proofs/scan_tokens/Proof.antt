@@ -1,5 +1,6 @@
 -- The tables are the word list and its chains, by computation.
 -- Assumes nothing.
+use mathlib.Core.List.{zipWith}
 use mathlib.Core.Path.{refl}
 use borrow.Author.Needs.{needs}
 use Rattle.lexer.specs.State.{nextsFrom, firstPlace}
@@ -9,10 +10,10 @@ use Rattle.lexer.proofs.scan_tokens.Statement.{statement}
 use Rattle.lexer.proofs.scan_tokens.Tie as tie
 
 scan-to-end-requires : tie.Need-scan-to-end-requires
-unfolding Words.words nextsFrom firstPlace
+unfolding Words.words nextsFrom firstPlace zipWith
 scan-to-end-requires c κs =
-    let p = c .before .before .before .before .before .before .before .before .before .before .before .pre in
-    (record { texts = refl; sizes = refl; types = refl }, p .0, p .1, refl)
+    let p = c .before .before .before .before .before .before .before .before .before .pre in
+    (record { texts = refl; infos = refl }, p .0, p .1)
 
 same-length : tie.Need-same-length
 same-length c = search needs
