@@ -54,6 +54,14 @@ at-plain k j a b c h =
     entry (λ n. n) (orderBy false false false) tt j h .0
     ∙ (λ t. getD (orderBy (sym (ne-eqb k 1 a) t) (sym (ne-eqb k 2 b) t) (sym (ne-eqb k 6 c) t)) j 0)
 
+-- and the display list is the one of no sus
+abbrev displayBy : Bool → Bool → Bool → Set → List ℕ
+displayBy a b c s = chosen s (λ i. cond (a && eqb i 16) 1 (cond (b && eqb i 17) 2 (cond (c && eqb i 20) 6 i))) (orderBy a b c)
+
+pub shown-plain : (k : ℕ) (s : Set) → (k ≡ 1 → ⊥) → (k ≡ 2 → ⊥) → (k ≡ 6 → ⊥) → displayOf k s ≡ displayOf 0 s
+unfolding order displayOf
+shown-plain k s a b c = λ t. displayBy (ne-eqb k 1 a t) (ne-eqb k 2 b t) (ne-eqb k 6 c t) s
+
 place-length : (f : ℕ → ℕ) (x : ℕ) (l : List ℕ) → length (place f x l) ≡ suc (length l)
 place-length f x [] = refl
 place-length f x (y ∷ l) = go (leb (f x) (f y)) (place-length f x l)

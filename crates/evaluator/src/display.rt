@@ -84,20 +84,8 @@ fn order_at(k: u8, j: u8) -> u8
     j
 }
 
-// The list with one more interval.
-fn push(l: IntervalList, interval: u8) -> IntervalList
-    requires { ⌜ l .len < 23 ⌝ }
-    ensures { λ r. ⌜ (listed r ≡ listed l ++ (interval ∷ [])) × (r .len ≡ l .len + 1) ⌝ }
-{
-    let mut m = l;
-    let n = m.len;
-    m.numbers[n] = interval;
-    m.len = n + 1;
-    m
-}
-
-// The display list of a set, where the first sus is of the interval k; k is any other number where there is none.
-pub fn display(k: u8, s: IntervalSet) -> IntervalList
+// The members in the order in which they are shown, each as it is shown.
+fn in_order(k: u8, s: IntervalSet) -> IntervalList
     ensures { λ r. ⌜ listed r ≡ displayOf k (members s) ⌝ }
 {
     let mut l = IntervalList {
@@ -111,7 +99,22 @@ pub fn display(k: u8, s: IntervalSet) -> IntervalList
         if !s.contains(i) {
             continue;
         }
-        l = push(l, shown(k, i));
+        let n = l.len;
+        l.numbers[n] = shown(k, i);
+        l.len = n + 1;
     }
     l
+}
+
+// The display list of a set, where the first sus is of the interval k; k is any other number where there is none. In each case k is known,
+// so that the loop has no test of it.
+pub fn display(k: u8, s: IntervalSet) -> IntervalList
+    ensures { λ r. ⌜ listed r ≡ displayOf k (members s) ⌝ }
+{
+    match k {
+        1 => in_order(1, s),
+        2 => in_order(2, s),
+        6 => in_order(6, s),
+        _ => in_order(0, s),
+    }
 }
