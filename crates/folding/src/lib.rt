@@ -1,9 +1,9 @@
 // Folding of tokens in three lent arrays, in place.
 ghost use mathlib.Core.Path.{_≡_};
 ghost use Prim.Native.Nat.{ℕ, _+_, _^_, _<_, _≤_, min};
-ghost use lib.ListN.{length, getD, set, take, drop};
+ghost use lib.ListN.{length, set, take, drop};
 ghost use Rattle.token.specs.Token.{Token, token, rows, Room, at as tokenAt};
-ghost use Rattle.folding.specs.Folding.{paired, fold7, count, seven, isMaj, concat, preProcess};
+ghost use Rattle.folding.specs.Folding.{paired, fold7, count, isMaj, concat, preProcess};
 ghost use Rattle.folding.specs.State.{Latest, Joined, Apart, Counted, partnerCame, sevenCame, Stepped, Turned, joinsAt, Took, Short};
 
 const DIM: u8 = 4;

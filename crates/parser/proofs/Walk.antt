@@ -7,7 +7,7 @@ use native.Mathlib.Numerals.{add-one}
 use native.Mathlib.Omega.{arith}
 use lib.Dec.{T as IsTrue}
 use lib.ListN.{length, drop, getD}
-use lib.Seq.{drop-drop, drop-nil}
+use lib.Seq.{drop-drop}
 use Rattle.chord.specs.declared.note.OptionalNote.{OptionalNote}
 use Rattle.chord.specs.declared.note.RootModifier.{RootModifier}
 use Rattle.behind.specs.Next.{noteIn, signIn}

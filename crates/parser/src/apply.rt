@@ -1,6 +1,5 @@
 // What a token's effect does to the state and to the lent lists.
 ghost use mathlib.Core.List.{[], _∷_};
-ghost use mathlib.Core.Path.{_≡_};
 ghost use Prim.Native.Nat.{_+_, _*_, _≤_, _<_};
 ghost use lib.ListN.{length};
 ghost use Rattle.step.specs.Bounds.{gainsCount};

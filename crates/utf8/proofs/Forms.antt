@@ -2,7 +2,7 @@
 -- `four-found`; one byte: `Laws`); bytes that no encoding begins with are Bad (`rejected`), and what an encoding's bytes are goes by its row (`Lead`).
 -- Assumes nothing.
 use mathlib.Core.Bool.{Bool, true, false, not, _&&_, cond}
-use mathlib.Core.List.{List, [], _∷_, _++_}
+use mathlib.Core.List.{List, [], _∷_}
 use mathlib.Core.Path.{_≡_, refl, sym, ap, _∙_, subst}
 use Prim.Native.Nat.{ℕ, _+_, _*_, _-_, _/_, _%_, _≤_, _<_}
 use native.Mathlib.Nat.{div-div-eq-div-mul, le-of-eq}

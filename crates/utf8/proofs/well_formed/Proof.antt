@@ -2,7 +2,7 @@
 -- what comes behind it goes on; where it is 0 no character begins (`nowhere`).
 -- Assumes nothing.
 use mathlib.Core.Path.{_≡_, refl, sym, ap, _∙_}
-use Prim.Native.Nat.{_-_, _≤_, _<_}
+use Prim.Native.Nat.{_-_, _≤_}
 use native.Mathlib.Omega.{arith}
 use lib.ListN.{length-drop, length, drop, drop-of-length-le}
 use lib.Seq.{drop-drop}

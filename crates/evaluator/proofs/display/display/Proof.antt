@@ -1,5 +1,5 @@
 -- In each arm k is the number that the arm names; at any other number the display list is that of no sus.
-use mathlib.Core.Path.{_≡_, sym, ap, _∙_}
+use mathlib.Core.Path.{sym, ap, _∙_}
 use Prim.Native.Nat.{ℕ}
 use borrow.Author.Needs.{needs}
 use Rattle.chord.specs.Chord.{members}

@@ -1,7 +1,4 @@
 -- The root's effect is one that fits the first state; its error is stored as that of any token.
-use mathlib.Core.List.{List, []}
-use mathlib.Core.Path.{_≡_, refl, sym, subst, ap, _∙_}
-use Prim.Native.Nat.{ℕ}
 use native.Mathlib.Omega.{arith}
 use borrow.Author.Needs.{needs}
 use Rattle.parser.proofs.Effects.{begun, fits-root}

@@ -1,5 +1,5 @@
 -- By the reach: of a token that asks for none nothing is said, one that asks for the next is told that, and else all three are told.
-use mathlib.Core.Path.{_≡_, _∙_, ap}
+use mathlib.Core.Path.{_∙_, ap}
 use native.Mathlib.Omega.{arith}
 use borrow.Author.Needs.{needs}
 use Rattle.behind.specs.declared.Ahead.{Ahead}
