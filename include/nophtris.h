@@ -7,7 +7,7 @@
  * buffer_len writable bytes, `count` and `length` to one number each, `chord` to one struct; what a call writes overlaps nothing else that it is
  * lent. A pointer with length 0 may be anything. `errors`, `count` and `length` are aligned as uint16_t is.
  *
- * Stack: less than 4 KiB, but some 490 bytes more for each bracket of a text that is opened inside another: 123 KiB for 255 of them (bench/stack measures it).
+ * Stack: less than 4 KiB, but some 480 bytes more for each bracket of a text that is opened inside another: 123 KiB for 255 of them (bench/stack measures it).
  *
  * A struct is 51 bytes without padding, and the library sees it as 51 bytes: any bytes in it are a record. Link with libnophtris.a.
  */
