@@ -1,15 +1,13 @@
 -- What was written at the beginning of the lent list makes the outcome; and sound expressions by index.
 -- Assumes nothing.
-use mathlib.Core.Bool.{Bool, true, false, not, cond}
+use mathlib.Core.Bool.{Bool, true, false, not}
 use mathlib.Core.List.{List, [], _∷_, _++_, map}
 use mathlib.Core.Path.{_≡_, refl, sym, ap, subst, _∙_}
 use Prim.Native.Nat.{ℕ, zero, suc, _+_, _*_, _/_, _≤_, _<_}
 use native.Mathlib.Nat.{not-suc-le-zero, le-of-suc-le-suc}
 use native.Mathlib.Omega.{arith}
-use lib.Dec.{ltb}
 use lib.ListN.{length, take, drop, getD}
 use lib.Seq.{length-take-le}
-use borrow.Author.Tests.{le-ltb, lt-ltb}
 use Rattle.chord.specs.Chord.{fourOf, noChord}
 use Rattle.chord.specs.declared.note.OptionalNote.{OptionalNote}
 use Rattle.expression.specs.Expression.{expOf}
@@ -17,13 +15,9 @@ use Rattle.expression.specs.declared.expression.Exp.{Exp}
 use Rattle.token.specs.Token.{Token}
 use Rattle.step.specs.Bounds.{Sound}
 use Rattle.evaluator.specs.State.{Sounds}
-use Rattle.folding.specs.Folding.{preProcess}
-use Rattle.lexer.specs.Lexer.{tokensOf}
 use Rattle.parser.specs.All.{All}
-use Rattle.utf8.specs.Utf8.{wellFormed}
-use Rattle.reader.specs.Reader.{Outcome, judge, parsed, readOf, refused, validated}
+use Rattle.reader.specs.Reader.{Outcome, countOf, judge, numberOf, parsed, refused, validated}
 use Rattle.reader.specs.State.{Gave}
-use Rattle.reader.specs.declared.Answer.the-variants.{LongText, NotUtf8, ShortList}
 use Rattle.reader.specs.declared.Answer.{Answer}
 use Rattle.reader.specs.declared.Reading.{Reading}
 
@@ -37,21 +31,23 @@ pub counted : (n : ℕ) (more es : List ℕ) → 4 * n ≤ length es → take (4
 counted n more es h e = sym (length-take-le (4 * n) es h) ∙ ap length e
 
 -- errors were found
-pub gave-errors : (more : List ℕ) (f : ℕ → Answer) (o : Outcome) (n : ℕ) {r : Reading} {es es′ : List ℕ} → 0 < n → 4 * n ≡ length more
-    → take (4 * n) es′ ≡ more → drop (4 * n) es′ ≡ drop (4 * n) es → r .answer ≡ f n → fourOf (r .chord) ≡ noChord → Gave (judge more f o) r es es′
-gave-errors [] f o n {r} {es} {es′} h k t d a c = absurd (omega (arith, h, k))
-gave-errors (x ∷ xs) f o n {r} {es} {es′} h k t d a c =
-    let q : n ≡ length (x ∷ xs) / 4 = omega (arith, k) in
+pub gave-errors : (more : List ℕ) (k : ℕ) (o : Outcome) (n : ℕ) {r : Reading} {es es′ : List ℕ} → 0 < n → 4 * n ≡ length more
+    → take (4 * n) es′ ≡ more → drop (4 * n) es′ ≡ drop (4 * n) es → numberOf (r .answer) ≡ k → countOf (r .answer) ≡ n
+    → fourOf (r .chord) ≡ noChord → Gave (judge more k o) r es es′
+gave-errors [] k o n {r} {es} {es′} h m t d a b c = absurd (omega (arith, h, m))
+gave-errors (x ∷ xs) k o n {r} {es} {es′} h m t d a b c =
+    let q : n ≡ length (x ∷ xs) / 4 = omega (arith, m) in
     record {
-      answer = a ∙ ap f q;
+      number = a;
+      count = b ∙ q;
       four = c;
-      list = parted (4 * n) es′ ∙ (λ i. t i ++ d i) ∙ ap (λ (j : ℕ). x ∷ xs ++ drop j es) k;
+      list = parted (4 * n) es′ ∙ (λ i. t i ++ d i) ∙ ap (λ (j : ℕ). x ∷ xs ++ drop j es) m;
     }
 
 -- none was
-pub gave-none : (more : List ℕ) (f : ℕ → Answer) (o : Outcome) {r : Reading} {es es′ : List ℕ} → length more ≡ 0 → Gave o r es es′ → Gave (judge more f o) r es es′
-gave-none [] f o h g = g
-gave-none (x ∷ xs) f o h g = absurd (omega (arith, h))
+pub gave-none : (more : List ℕ) (k : ℕ) (o : Outcome) {r : Reading} {es es′ : List ℕ} → length more ≡ 0 → Gave o r es es′ → Gave (judge more k o) r es es′
+gave-none [] k o h g = g
+gave-none (x ∷ xs) k o h g = absurd (omega (arith, h))
 
 -- the list is as it was
 pub untouched : (n : ℕ) {es es′ : List ℕ} → n ≡ 0 → drop (4 * n) es′ ≡ drop (4 * n) es → es′ ≡ es
@@ -59,46 +55,15 @@ untouched n {es} {es′} z d =
     let e : 4 * n ≡ 0 = omega (arith, z) in
     subst (λ (j : ℕ). drop j es′ ≡ drop j es) e d
 
-pub gave-refused : {a : Answer} {r : Reading} (es : List ℕ) → r .answer ≡ a → fourOf (r .chord) ≡ noChord → Gave (refused a) r es es
-gave-refused es h c = record { answer = h; four = c; list = refl }
+-- a question got no, and the outcome is a refusal without errors
+pub gave-refused : {o : Outcome} {k : ℕ} {a : Answer} {r : Reading} (es : List ℕ) → o ≡ refused k → numberOf a ≡ k → countOf a ≡ 0 → r .answer ≡ a
+    → fourOf (r .chord) ≡ noChord → Gave o r es es
+gave-refused {o} {k} {a} {r} es e n m h c =
+    subst (λ (x : Outcome). Gave x r es es) (sym e) (record { number = ap numberOf h ∙ n; count = ap countOf h ∙ m; four = c; list = refl })
 
--- the first three questions, one after another
-abbrev questions : Bool → Bool → Bool → Outcome → Outcome
-questions a b c o = cond a (refused ShortList) (cond b (refused LongText) (cond c o (refused NotUtf8)))
-
-module _ (room : ℕ) (text : List ℕ) (r : Reading) (es es′ : List ℕ) where
-  abbrev O : Outcome
-  O = parsed (preProcess (tokensOf text))
-
-  abbrev G : Bool → Bool → Bool → Type 0
-  G a b c = Gave (questions a b c O) r es es′
-
-  abbrev long : Bool
-  long = ltb 256 (length text)
-
-  pub short-list : room < 1028 → Gave (refused ShortList) r es es′ → Gave (readOf room text) r es es′
-  unfolding readOf
-  short-list h g = subst (λ (a : Bool). G a long (wellFormed text)) (sym (lt-ltb room 1028 h)) g
-
-  pub long-text : 1028 ≤ room → 256 < length text → Gave (refused LongText) r es es′ → Gave (readOf room text) r es es′
-  unfolding readOf
-  long-text h k g =
-      subst (λ (a : Bool). G a long (wellFormed text)) (sym (le-ltb room 1028 h))
-      (subst (λ (b : Bool). G false b (wellFormed text)) (sym (lt-ltb 256 (length text) k)) g)
-
-  pub not-utf8 : 1028 ≤ room → length text ≤ 256 → wellFormed text ≡ false → Gave (refused NotUtf8) r es es′ → Gave (readOf room text) r es es′
-  unfolding readOf
-  not-utf8 h k w g =
-      subst (λ (a : Bool). G a long (wellFormed text)) (sym (le-ltb room 1028 h))
-      (subst (λ (b : Bool). G false b (wellFormed text)) (sym (le-ltb 256 (length text) k))
-      (subst (λ (c : Bool). G false false c) (sym w) g))
-
-  pub is-read : 1028 ≤ room → length text ≤ 256 → wellFormed text ≡ true → Gave (parsed (preProcess (tokensOf text))) r es es′ → Gave (readOf room text) r es es′
-  unfolding readOf
-  is-read h k w g =
-      subst (λ (a : Bool). G a long (wellFormed text)) (sym (le-ltb room 1028 h))
-      (subst (λ (b : Bool). G false b (wellFormed text)) (sym (le-ltb 256 (length text) k))
-      (subst (λ (c : Bool). G false false c) (sym w) g))
+-- the same of an outcome that is equal
+pub gave-same : {o o′ : Outcome} {r : Reading} {es es′ : List ℕ} → o ≡ o′ → Gave o′ r es es′ → Gave o r es es′
+gave-same {o} {o′} {r} {es} {es′} e g = subst (λ (x : Outcome). Gave x r es es′) (sym e) g
 
 pub sounds-all : (ys : List ℕ) → All Sound (map expOf ys) → Sounds ys
 sounds-all [] a i h = absurd (not-suc-le-zero h)

@@ -1,2 +1,3 @@
--- What several proofs use.
+-- What several proofs use; the questions by their answers are for other crates too.
 mod Judge
+pub mod Answers

@@ -36,48 +36,55 @@ countOf NotUtf8 = 0
 countOf (Parse n) = n
 countOf (Validation n) = n
 
--- what reading gives: the answer, the four, and what the lent list begins with after it
+-- what reading gives: the paper's number and count, the four, and what the lent list begins with after it
 pub record Outcome : Type 0 where
-  pub answer : Answer
+  pub number : ℕ
+  pub count : ℕ
   pub four : Four
   pub errs : List ℕ
 
 -- "Numbers 1, 2, 3 .. and an accepted text leave the lent memory untouched."
-abbrev pub refused : Answer → Outcome
-refused a = record { answer = a; four = noChord; errs = [] }
+abbrev pub refused : ℕ → Outcome
+refused n = record { number = n; count = 0; four = noChord; errs = [] }
 
 -- "root, slash bass, `intervals`, `display_intervals`"
-abbrev pub accepted : OptionalNote → List Exp → Outcome
-accepted root l =
-    record {
-      answer = Accepted;
-      four = record { root = root; bass = slashBass l; normalized = evalSet l; display = displayOf (firstSus l) (evalSet l) };
-      errs = [];
-    }
+abbrev pub fourBy : OptionalNote → List Exp → Four
+fourBy root l = record { root = root; bass = slashBass l; normalized = evalSet l; display = displayOf (firstSus l) (evalSet l) }
 
--- "After 4 or 5 with n errors the first 4n numbers hold them": the answer f with the count of the errors, or o where there are none
-abbrev pub judge : List ℕ → (ℕ → Answer) → Outcome → Outcome
-judge [] f o = o
-judge (x ∷ xs) f o = record { answer = f (length (x ∷ xs) / 4); four = noChord; errs = x ∷ xs }
+abbrev pub accepted : OptionalNote → List Exp → Outcome
+accepted root l = record { number = 0; count = 0; four = fourBy root l; errs = [] }
+
+-- "After 4 or 5 with n errors the first 4n numbers hold them"
+abbrev pub found : ℕ → List ℕ → Outcome
+found n e = record { number = n; count = length e / 4; four = noChord; errs = e }
+
+-- the number n with the errors, or o where there are none
+abbrev pub judge : List ℕ → ℕ → Outcome → Outcome
+judge [] n o = o
+judge (x ∷ xs) n o = found n (x ∷ xs)
 
 -- "Did validation find no error? No: 5, with the count of errors."
 abbrev pub validated : OptionalNote → List Exp → Outcome
-validated root l = judge (validationOf l (evalSet l)) Validation (accepted root l)
+validated root l = judge (validationOf l (evalSet l)) 5 (accepted root l)
 
 -- "Did parsing find no error? No: 4, with the count of errors."
 abbrev pub parsed : List Token → Outcome
-parsed ts = judge (parseOf ts .errs) Parse (validated (rootOf ts) (parseOf ts .exps))
+parsed ts = judge (parseOf ts .errs) 4 (validated (rootOf ts) (parseOf ts .exps))
 
--- "Does the list hold at least 1,028 numbers? No: 1. Is the text at most 256 bytes? No: 2. Is it UTF-8 by RFC 3629 ..? No: 3."
+-- the tokens that the parser reads
+abbrev pub tokensIn : List ℕ → List Token
+tokensIn text = preProcess (tokensOf text)
+
+-- the answer to a text, "given an error list that is long enough": "Is the text at most 256 bytes? No: 2. Is it UTF-8 by RFC 3629 ..? No: 3."
+unfoldable pub answerTo : List ℕ → Outcome
+answerTo text = cond (ltb 256 (length text)) (refused 2) (cond (wellFormed text) (parsed (tokensIn text)) (refused 3))
+
+-- "Does the list hold at least 1,028 numbers? No: 1."
 unfoldable pub readOf : ℕ → List ℕ → Outcome
-readOf room text =
-    cond (ltb room 1028) (refused ShortList)
-    (cond (ltb 256 (length text)) (refused LongText)
-    (cond (wellFormed text) (parsed (preProcess (tokensOf text)))
-    (refused NotUtf8)))
+readOf room text = cond (ltb room 1028) (refused 1) (answerTo text)
 
 -- "A text is accepted when each question put to a card gets yes, given an error list that is long enough. Its four are the root, slash bass or
 -- none, normalized set and display list that the rules below give it"
 pub record IsAccepted (t : List ℕ) (f : Four) : Type 0 where
-  pub answer : readOf 1028 t .answer ≡ Accepted
-  pub four : readOf 1028 t .four ≡ f
+  pub number : answerTo t .number ≡ 0
+  pub four : answerTo t .four ≡ f

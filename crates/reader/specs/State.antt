@@ -1,4 +1,4 @@
--- What the code gave: the answer, the record and the whole lent list, as an outcome says.
+-- What the code gave: the answer by its number and count, the record and the whole lent list, as an outcome says.
 use mathlib.Core.List.{List, _++_}
 use mathlib.Core.Path.{_≡_}
 use Prim.Native.Nat.{ℕ, _≤_}
@@ -7,13 +7,18 @@ use Rattle.chord.specs.Chord.{fourOf}
 use Rattle.folding.specs.Folding.{preProcess}
 use Rattle.lexer.specs.Lexer.{tokensOf}
 use Rattle.token.specs.Token.{Ranged, Room, Token, rows}
-use Rattle.reader.specs.Reader.{Outcome}
+use Rattle.reader.specs.Reader.{Outcome, countOf, numberOf, readOf}
 use Rattle.reader.specs.declared.Reading.{Reading}
 
 pub record Gave (o : Outcome) (r : Reading) (es es′ : List ℕ) : Type 0 where
-  pub answer : r .answer ≡ o .answer
+  pub number : numberOf (r .answer) ≡ o .number
+  pub count : countOf (r .answer) ≡ o .count
   pub four : fourOf (r .chord) ≡ o .four
   pub list : es′ ≡ o .errs ++ drop (length (o .errs)) es
+
+-- what a caller of `read` knows: the text was read with the lent list es, which is es′ now, and the reading is r
+abbrev pub Read : (text es es′ : List ℕ) → Reading → Type 0
+Read text es es′ r = Gave (readOf (length es) text) r es es′
 
 -- the first e tokens are those of the text, folded
 pub record Tokenized (text : List ℕ) (e : ℕ) (ks ps ls : List ℕ) : Type 0 where

@@ -6,12 +6,10 @@ ghost use lib.ListN.{length};
 ghost use Rattle.chord.specs.Chord.{fourOf, noChord};
 ghost use Rattle.expression.specs.Expression.{expOf};
 ghost use Rattle.evaluator.specs.State.{Sounds};
-ghost use Rattle.folding.specs.Folding.{preProcess};
-ghost use Rattle.lexer.specs.Lexer.{tokensOf};
 ghost use Rattle.parser.specs.State.{Tokens};
 ghost use Rattle.token.specs.Token.{Room, rows};
-ghost use Rattle.reader.specs.Reader.{validated, parsed, readOf};
-ghost use Rattle.reader.specs.State.{Gave, Tokenized};
+ghost use Rattle.reader.specs.Reader.{parsed, tokensIn, validated};
+ghost use Rattle.reader.specs.State.{Gave, Read, Tokenized};
 use chord::Chord;
 use chord::note::OptionalNote;
 
@@ -92,7 +90,7 @@ fn tokenize(text: &[u8], kinds: &mut [u8], poss: &mut [u16], lens: &mut [u16]) -
 // The answer to a text of at most 256 bytes that is UTF-8.
 fn read_text(text: &[u8], errs: &mut [u16]) -> Reading
     requires { ⌜ (length (now text) ≤ 256) × (1028 ≤ length (now errs)) ⌝ }
-    ensures { λ r. ⌜ Gave (parsed (preProcess (tokensOf (now (text .entry))))) r (now (errs .entry)) (now (errs .exit)) ⌝ }
+    ensures { λ r. ⌜ Gave (parsed (tokensIn (now (text .entry)))) r (now (errs .entry)) (now (errs .exit)) ⌝ }
 {
     let mut kinds = [0u8; 257];
     let mut poss = [0u16; 257];
@@ -103,7 +101,7 @@ fn read_text(text: &[u8], errs: &mut [u16]) -> Reading
 
 // Reads any bytes, with any lent list. After a refusal with 4 or 5 the list begins with the errors; all else in it is untouched.
 pub fn read(text: &[u8], errs: &mut [u16]) -> Reading
-    ensures { λ r. ⌜ Gave (readOf (length (now (errs .entry))) (now (text .entry))) r (now (errs .entry)) (now (errs .exit)) ⌝ }
+    ensures { λ r. ⌜ Read (now (text .entry)) (now (errs .entry)) (now (errs .exit)) r ⌝ }
 {
     if errs.len() < 1028 {
         return refuse(Answer::ShortList);

@@ -4,14 +4,13 @@ use Rattle.parser.specs.All.{All}
 use Rattle.parser.specs.Parser.{parseOf, rootOf}
 use Rattle.reader.proofs.Judge.{as-is, counted, gave-errors, gave-none, sounds-all, untouched}
 use Rattle.reader.proofs.parse.Statement.{statement}
-use Rattle.reader.specs.Reader.{validated}
-use Rattle.reader.specs.declared.Answer.the-variants.{Parse}
+use Rattle.reader.specs.Reader.{countOf, numberOf, validated}
 use Rattle.step.specs.Bounds.{Sound}
 use Rattle.token.specs.Token.{rows}
 use borrow.Author.Needs.{needs}
 use lib.ListN.{length-take, take}
 use lib.Seq.{length-take-le}
-use mathlib.Core.Path.{_∙_, _≡_, subst, sym}
+use mathlib.Core.Path.{_≡_, ap, subst, sym}
 use native.Mathlib.Omega.{arith}
 use Rattle.reader.proofs.parse.Tie as tie
 
@@ -37,7 +36,7 @@ returns c =
     let ts = rows (a .kinds .now) (a .poss .now) (a .lens .now) in
     let p = c .before .before .before .before .before .parse in
     let n = p .result .errors in
-    gave-errors (parseOf ts .errs) Parse _ n (c .before .if1 .taken) (counted n (parseOf ts .errs) (p .last .1 .1 .1 .0) (omega (arith, p .ensures .few, p .kept, s .pre .1)) (p .ensures .errs)) (p .ensures .errs) (p .ensures .rest) (c .refuse .ensures .0) (c .refuse .ensures .1)
+    gave-errors (parseOf ts .errs) 4 _ n (c .before .if1 .taken) (counted n (parseOf ts .errs) (p .last .1 .1 .1 .0) (omega (arith, p .ensures .few, p .kept, s .pre .1)) (p .ensures .errs)) (p .ensures .errs) (p .ensures .rest) (ap numberOf (c .refuse .ensures .0)) (ap countOf (c .refuse .ensures .0)) (c .refuse .ensures .1)
 
 array-share-prefix-exps : tie.Need-array-share-prefix-exps
 array-share-prefix-exps c = search needs
@@ -69,7 +68,7 @@ returns-2 c =
     let k = counted n (parseOf ts .errs) (p .last .1 .1 .1 .0) (omega (arith, p .ensures .few, p .kept, s .pre .1)) (p .ensures .errs) in
     let u = untouched n z (p .ensures .rest) in
     let g = c .before .before .evaluate .ensures in
-    gave-none (parseOf ts .errs) Parse (validated (rootOf ts) (parseOf ts .exps)) (omega (arith, z, k))
+    gave-none (parseOf ts .errs) 4 (validated (rootOf ts) (parseOf ts .exps)) (omega (arith, z, k))
     (as-is (p .ensures .root) (p .ensures .exps) u g)
 
 pub parse-spec : {M : Type 1} → statement M

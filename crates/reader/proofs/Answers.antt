@@ -1,0 +1,89 @@
+-- The questions put to a card, by their answers: what each makes the outcome, and from the outcome back to them. Every theorem on a reading goes
+-- by these.
+-- Assumes nothing.
+use mathlib.Core.Bool.{Bool, true, false, cond}
+use mathlib.Core.List.{List, [], _∷_}
+use mathlib.Core.Path.{_≡_, refl, ap, _∙_}
+use Prim.Native.Nat.{ℕ, _≤_, _<_}
+use lib.Dec.{ltb}
+use lib.ListN.{length}
+use borrow.Author.Tests.{le-ltb, lt-ltb, ltb-false, ltb-true}
+use Rattle.chord.specs.declared.note.OptionalNote.{OptionalNote}
+use Rattle.evaluator.specs.Evaluator.{evalSet}
+use Rattle.expression.specs.declared.expression.Exp.{Exp}
+use Rattle.parser.specs.Parser.{parseOf, rootOf}
+use Rattle.utf8.specs.Utf8.{wellFormed}
+use Rattle.validator.specs.Validator.{validationOf}
+use Rattle.reader.specs.Reader.{Outcome, accepted, answerTo, found, judge, parsed, readOf, refused, tokensIn}
+
+-- ---- from the questions to the outcome
+
+module _ (room : ℕ) (text : List ℕ) where
+  pub short-list : room < 1028 → readOf room text ≡ refused 1
+  unfolding readOf
+  short-list h = ap (λ (b : Bool). cond b (refused 1) (answerTo text)) (lt-ltb room 1028 h)
+
+  pub long-list : 1028 ≤ room → readOf room text ≡ answerTo text
+  unfolding readOf
+  long-list h = ap (λ (b : Bool). cond b (refused 1) (answerTo text)) (le-ltb room 1028 h)
+
+module _ (text : List ℕ) where
+  -- the two questions of a text
+  abbrev asked : Bool → Bool → Outcome
+  asked b c = cond b (refused 2) (cond c (parsed (tokensIn text)) (refused 3))
+
+  pub long-text : 256 < length text → answerTo text ≡ refused 2
+  unfolding answerTo
+  long-text h = ap (λ (b : Bool). asked b (wellFormed text)) (lt-ltb 256 (length text) h)
+
+  pub not-utf8 : length text ≤ 256 → wellFormed text ≡ false → answerTo text ≡ refused 3
+  unfolding answerTo
+  not-utf8 h u = λ i. asked (le-ltb 256 (length text) h i) (u i)
+
+  pub is-text : length text ≤ 256 → wellFormed text ≡ true → answerTo text ≡ parsed (tokensIn text)
+  unfolding answerTo
+  is-text h u = λ i. asked (le-ltb 256 (length text) h i) (u i)
+
+  -- ---- and back
+
+  abbrev expsIn : List Exp
+  expsIn = parseOf (tokensIn text) .exps
+
+  abbrev parseErrors : List ℕ
+  parseErrors = parseOf (tokensIn text) .errs
+
+  abbrev validationErrors : List ℕ
+  validationErrors = validationOf expsIn (evalSet expsIn)
+
+  -- which question got no, with the outcome that it makes; the last is an accepted text
+  pub data Way : Outcome → Type 0 where
+    long : 256 < length text → Way (refused 2)
+    bytes : length text ≤ 256 → wellFormed text ≡ false → Way (refused 3)
+    parse : {x : ℕ} {e : List ℕ} → length text ≤ 256 → wellFormed text ≡ true → parseErrors ≡ x ∷ e → Way (found 4 (x ∷ e))
+    validation : {x : ℕ} {e : List ℕ} → length text ≤ 256 → wellFormed text ≡ true → parseErrors ≡ [] → validationErrors ≡ x ∷ e → Way (found 5 (x ∷ e))
+    accept : length text ≤ 256 → wellFormed text ≡ true → parseErrors ≡ [] → validationErrors ≡ [] → Way (accepted (rootOf (tokensIn text)) expsIn)
+
+  pub way : Way (answerTo text)
+  unfolding answerTo
+  way = by (ltb 256 (length text)) (wellFormed text) parseErrors validationErrors refl refl refl refl
+    where
+      by : (b c : Bool) (e d : List ℕ) → ltb 256 (length text) ≡ b → wellFormed text ≡ c → parseErrors ≡ e → validationErrors ≡ d
+          → Way (cond b (refused 2) (cond c (judge e 4 (judge d 5 (accepted (rootOf (tokensIn text)) expsIn))) (refused 3)))
+      by true c e d q u p v = long (ltb-true 256 (length text) q)
+      by false false e d q u p v = bytes (ltb-false 256 (length text) q) u
+      by false true (x ∷ e) d q u p v = parse (ltb-false 256 (length text) q) u p
+      by false true [] (x ∷ d) q u p v = validation (ltb-false 256 (length text) q) u p v
+      by false true [] [] q u p v = accept (ltb-false 256 (length text) q) u p v
+
+-- the first question, with what it makes of the rest
+pub data Asked (room : ℕ) (text : List ℕ) : Outcome → Type 0 where
+  short : room < 1028 → Asked room text (refused 1)
+  enough : 1028 ≤ room → Asked room text (answerTo text)
+
+pub asked-first : (room : ℕ) (text : List ℕ) → Asked room text (readOf room text)
+unfolding readOf
+asked-first room text = by (ltb room 1028) refl
+  where
+    by : (b : Bool) → ltb room 1028 ≡ b → Asked room text (cond b (refused 1) (answerTo text))
+    by true e = short (ltb-true room 1028 e)
+    by false e = enough (ltb-false room 1028 e)
