@@ -1,7 +1,7 @@
 -- Which fours some accepted text has, and that the house spelling of these is accepted and has them. The text half is `text-lemma`, the set half
 -- is house `round-at` and `struct`; what validation finds in the set is carried over.
 -- Assumes nothing.
-use mathlib.Core.Bool.{Bool, true, false, not, _&&_, cond}
+use mathlib.Core.Bool.{Bool, true, false, not, _&&_}
 use mathlib.Core.List.{List, [], _∷_, _++_}
 use mathlib.Core.Logic.{_↔_}
 use mathlib.Core.Path.{_≡_, refl, sym, ap, subst, fun-ext, _∙_}
@@ -9,7 +9,7 @@ use Prim.Native.Nat.{ℕ, _≤_}
 use native.Mathlib.Omega.{arith}
 use lib.Dec.{T, ltb}
 use lib.ListN.{length}
-use borrow.Author.Tests.{le-ltb, ltb-false, ltb-true}
+use borrow.Author.Tests.{ltb-false, ltb-true}
 use Rattle.chord.specs.Chord.{Four}
 use Rattle.chord.specs.Interval.{Set, empty}
 use Rattle.chord.specs.declared.note.Note.{Note}
@@ -21,7 +21,6 @@ use Rattle.expression.specs.ParserError.{numbersOf}
 use Rattle.expression.specs.declared.expression.Exp.{Exp}
 use Rattle.expression.specs.declared.parser_error.ParserError.the-variants.{InconsistentExtension}
 use Rattle.expression.specs.declared.parser_error.ParserError.{ParserError}
-use Rattle.folding.specs.Folding.{preProcess}
 use Rattle.house.proofs.Accepted.{spelled-valid}
 use Rattle.house.proofs.Allowed.{allowed-of, nil}
 use Rattle.house.proofs.Back.{bass-back, kind-back}
@@ -35,7 +34,6 @@ use Rattle.house.proofs.Tests.{same-lists, same-self}
 use Rattle.house.specs.House.{displayBy, isSome, kindIn, kindOf, spellExps}
 use Rattle.house.specs.declared.kind.Kind.{Kind}
 use Rattle.house.specs.Question.{Low, all, clauses, realizable, realizableBy, sameList}
-use Rattle.lexer.specs.Lexer.{tokensOf}
 use Rattle.parser.proofs.Laws.{expressions-sound, root-note}
 use Rattle.parser.specs.All.{All}
 use Rattle.parser.specs.Parser.{parseOf, rootOf}
@@ -43,44 +41,25 @@ use Rattle.pieces.proofs.Length.{length-spelled}
 use Rattle.pieces.proofs.TextLemma.{places, text-lemma}
 use Rattle.pieces.proofs.WellFormed.{spelled-utf8}
 use Rattle.pieces.specs.Spelling.{house, houseBy, spell}
-use Rattle.reader.specs.Reader.{IsAccepted, Outcome, accepted, judge, numberOf, parsed, readOf, refused, validated}
-use Rattle.reader.specs.declared.Answer.the-variants.{Accepted, LongText, NotUtf8, Parse, ShortList, Validation}
-use Rattle.reader.specs.declared.Answer.{Answer}
+use Rattle.reader.proofs.Answers.{Way, accept, bytes, is-text, long, parse, validation, way}
+use Rattle.reader.specs.Reader.{IsAccepted, Outcome, accepted, answerTo, judge, tokensIn}
 use Rattle.step.specs.Bounds.{Sound}
-use Rattle.token.specs.Token.{Token}
 use Rattle.utf8.specs.Utf8.{wellFormed}
 use Rattle.validator.specs.Validator.{allFrom, conflictAt, expressionErrors, extensionErrors, extensionFault, firstWrong, isNil, only, orElse, repeated, semitoneErrors, setValid, validationOf}
 
 -- ---- what acceptance says of each layer
 
-abbrev questions : Bool → Bool → Bool → Outcome → Outcome
-questions a b c o = cond a (refused ShortList) (cond b (refused LongText) (cond c o (refused NotUtf8)))
-
--- an answer that is no acceptance
-no : (a : Answer) (n : ℕ) → numberOf a ≡ n → 1 ≤ n → a ≡ Accepted → {X : Type 0} → X
-no a n e h w = let z : numberOf a ≡ 0 = ap numberOf w in absurd (omega (arith, e, h, z))
-
--- no error of the parser, none of validation, and the outcome is the accepted one
-clear : (a b c : Bool) (e₁ e₂ : List ℕ) (o : Outcome) → questions a b c (judge e₁ Parse (judge e₂ Validation o)) .answer ≡ Accepted
-    → (e₁ ≡ []) × (e₂ ≡ []) × (questions a b c (judge e₁ Parse (judge e₂ Validation o)) ≡ o)
-clear true b c e₁ e₂ o w = no ShortList 1 refl (omega arith) w
-clear false true c e₁ e₂ o w = no LongText 2 refl (omega arith) w
-clear false false false e₁ e₂ o w = no NotUtf8 3 refl (omega arith) w
-clear false false true (x ∷ xs) e₂ o w = no (Parse _) 4 refl (omega arith) w
-clear false false true [] (x ∷ xs) o w = no (Validation _) 5 refl (omega arith) w
-clear false false true [] [] o w = (refl, refl, refl)
-
-abbrev tokensIn : List ℕ → List Token
-tokensIn t = preProcess (tokensOf t)
-
 abbrev expsIn : List ℕ → List Exp
 expsIn t = parseOf (tokensIn t) .exps
 
-found : (t : List ℕ) → readOf 1028 t .answer ≡ Accepted
-    → (parseOf (tokensIn t) .errs ≡ []) × (validationOf (expsIn t) (evalSet (expsIn t)) ≡ []) × (readOf 1028 t ≡ accepted (rootOf (tokensIn t)) (expsIn t))
-unfolding readOf
-found t w =
-    clear (ltb 1028 1028) (ltb 256 (length t)) (wellFormed t) (parseOf (tokensIn t) .errs) (validationOf (expsIn t) (evalSet (expsIn t))) (accepted (rootOf (tokensIn t)) (expsIn t)) w
+-- no error of the parser, none of validation, and the outcome is the accepted one
+passed-all : (t : List ℕ) {o : Outcome} → Way t o → o .number ≡ 0
+    → (parseOf (tokensIn t) .errs ≡ []) × (validationOf (expsIn t) (evalSet (expsIn t)) ≡ []) × (o ≡ accepted (rootOf (tokensIn t)) (expsIn t))
+passed-all t (long h) e = absurd (omega (arith, e))
+passed-all t (bytes h u) e = absurd (omega (arith, e))
+passed-all t (parse h u p) e = absurd (omega (arith, e))
+passed-all t (validation h u p v) e = absurd (omega (arith, e))
+passed-all t (accept h u p v) e = (p, v, refl)
 
 -- ---- what validation says of the set is carried over
 
@@ -142,9 +121,8 @@ one-third s v = unlit (s 4) (s 3) (InconsistentExtension 4) (allFrom (conflictAt
 
 -- the answer to a text that has passed the layers
 is-read : (t : List ℕ) → length t ≤ 256 → wellFormed t ≡ true → parseOf (tokensIn t) .errs ≡ [] → validationOf (expsIn t) (evalSet (expsIn t)) ≡ []
-    → readOf 1028 t ≡ accepted (rootOf (tokensIn t)) (expsIn t)
-unfolding readOf
-is-read t h u p v = λ i. questions false (le-ltb 256 (length t) h i) (u i) (judge (p i) Parse (judge (v i) Validation (accepted (rootOf (tokensIn t)) (expsIn t))))
+    → answerTo t ≡ accepted (rootOf (tokensIn t)) (expsIn t)
+is-read t h u p v = is-text t h u ∙ (λ i. judge (p i) 4 (judge (v i) 5 (accepted (rootOf (tokensIn t)) (expsIn t))))
 
 -- ---- which fours some accepted text has
 
@@ -180,18 +158,18 @@ module _ (r : Note) (b : OptionalNote) (n : Set) (k : Kind) (c : Struct n k) (v 
       let s = spelled-valid (places r n k) b n k in
       ap (λ (x : List Exp). validationOf x (evalSet x)) exps ∙ ap (λ (q : Set). validationOf l′ q) same ∙ all-valid l′ n (s .0) (s .1) (s .2) v
 
-  reads : readOf 1028 text ≡ accepted (rootOf (tokensIn text)) (expsIn text)
+  reads : answerTo text ≡ accepted (rootOf (tokensIn text)) (expsIn text)
   reads = let h = length-spelled r b n k in is-read text (omega (arith, h)) (spelled-utf8 r b n k) (text-lemma r b n k .0) validates
 
   display : displayOf (firstSus l′) (evalSet l′) ≡ displayBy k n
   display = ap (displayOf (firstSus l′)) same ∙ display-by (firstSus l′) n ∙ ap (λ (q : Kind). displayBy q n) (kind-back (places r n k) b n k)
 
   -- the spelling of any root and bass with such a set and K is accepted, with these four
-  spelled-reads : readOf 1028 text ≡ record { answer = Accepted; four = record { root = Some r; bass = b; normalized = n; display = displayBy k n }; errs = [] }
+  spelled-reads : answerTo text ≡ record { number = 0; count = 0; four = record { root = Some r; bass = b; normalized = n; display = displayBy k n }; errs = [] }
   spelled-reads =
       reads
       ∙ (λ i. accepted (text-lemma r b n k .2 i) (exps i))
-      ∙ (λ i. record { answer = Accepted; four = record { root = Some r; bass = bass-back (places r n k) b n k i; normalized = same i; display = display i }; errs = [] })
+      ∙ (λ i. record { number = 0; count = 0; four = record { root = Some r; bass = bass-back (places r n k) b n k i; normalized = same i; display = display i }; errs = [] })
 
 -- the house spelling of a realizable four is accepted, and has these four
 pub spelling-realizes : (f : Four) → Realizable f → IsAccepted (house f) f
@@ -199,16 +177,16 @@ spelling-realizes f h =
     let k = kindIn (f .normalized) (f .display) in
     let e = spelled-reads (h .root) (f .bass) (f .normalized) k (h .clauses) (h .valid) (h .within) in
     let t : house f ≡ spell (h .root) (f .bass) (f .normalized) k = ap (λ (x : OptionalNote). houseBy x f) (h .rooted) in
-    let z = ap (readOf 1028) t ∙ e in
+    let z = ap answerTo t ∙ e in
     record {
-      answer = ap (λ (x : Outcome). x .answer) z;
+      number = ap (λ (x : Outcome). x .number) z;
       four = ap (λ (x : Outcome). x .four) z ∙ (λ i. record { root = sym (h .rooted) i; bass = f .bass; normalized = f .normalized; display = sym (h .displayed) i });
     }
 
 -- the four of an accepted text are realizable
 pub accepted-realizable : (t : List ℕ) (f : Four) → IsAccepted t f → Realizable f
 accepted-realizable t f a =
-    let w = found t (a .answer) in
+    let w = passed-all t (way t) (a .number) in
     let l = expsIn t in
     let n = evalSet l in
     let q = root-note (tokensIn t) (w .0) in
@@ -216,7 +194,7 @@ accepted-realizable t f a =
     let o = allowed-of (All Sound) (λ e m s. s) l (expressions-sound (tokensIn t)) (v .0) in
     let s = struct l o in
     let k : kindIn n (displayOf (firstSus l) n) ≡ kindOf (firstSus l) = kind-displayed (firstSus l) n (s .s11a) (s .s11b) (s .s11c) in
-    let e : readOf 1028 t ≡ accepted (Some (q .0)) l = w .2 ∙ ap (λ (x : OptionalNote). accepted x l) (q .1) in
+    let e : answerTo t ≡ accepted (Some (q .0)) l = w .2 ∙ ap (λ (x : OptionalNote). accepted x l) (q .1) in
     subst Realizable (ap (λ (x : Outcome). x .four) (sym e) ∙ a .four)
     (record {
       root = q .0;
