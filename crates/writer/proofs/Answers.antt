@@ -1,12 +1,15 @@
--- The three answers: what the definition gives by the two questions, and that the code gave it.
+-- The two questions put to a record, by their answers: what each makes the outcome, from the outcome back to them, and that the code gave it.
+-- Every theorem on a writing goes by these.
 -- Assumes nothing.
-use mathlib.Core.Bool.{Bool, true, false, not, cond, _&&_}
+use mathlib.Core.Bool.{Bool, true, false, true≢false, not, cond, _&&_}
 use mathlib.Core.List.{List, []}
+use mathlib.Core.Logic.{_↔_}
 use mathlib.Core.Path.{_≡_, refl, sym, ap, _∙_, subst}
 use Prim.Native.Nat.{ℕ, _≤_, _<_}
 use native.Mathlib.Omega.{arith}
+use lib.Dec.{ltb}
 use lib.ListN.{length}
-use borrow.Author.Tests.{lt-ltb, le-ltb}
+use borrow.Author.Tests.{lt-ltb, le-ltb, ltb-false, ltb-true}
 use Rattle.chord.specs.Chord.{Four, bit, fourOf, members}
 use Rattle.chord.specs.declared.Chord.{Chord}
 use Rattle.chord.specs.declared.interval.IntervalSet.{IntervalSet}
@@ -19,17 +22,29 @@ use Rattle.pieces.proofs.Realized.{some-text}
 use Rattle.pieces.specs.Spelling.{house, houseBy, spell}
 use Rattle.writer.proofs.Puts.{put-whole}
 use Rattle.writer.specs.State.{Gave, Put}
-use Rattle.writer.specs.Writer.{Decided, Outcome, refused, spelled, writeOf}
+use Rattle.writer.specs.Writer.{HasText, Outcome, answerTo, lengthOf, numberOf, refused, spelled, writeOf}
 use Rattle.writer.specs.declared.Answer.the-variants.{Spelled, ShortBuffer, NoText}
 use Rattle.writer.specs.declared.Answer.{Answer}
+
+-- ---- the test is the question
 
 -- a record's set has no member outside the table, so the test decides the question
 low : (s : IntervalSet) → Low (members s)
 unfolding members
 low s j h = ap (λ (t : Bool). t && bit (s .bits) j) (le-ltb j 23 h)
 
-pub decided : (c : Chord) → Decided (fourOf c)
+pub decided : (c : Chord) → (realizable (fourOf c) ≡ true) ↔ HasText (fourOf c)
 decided c = some-text (fourOf c) (low (c .normalized))
+
+-- a Boolean that says the same is the test
+pub is-test : (c : Chord) (b : Bool) → (b ≡ true) ↔ HasText (fourOf c) → realizable (fourOf c) ≡ b
+is-test c b h = by (realizable (fourOf c)) b (λ e. h .1 (decided c .0 e)) (λ e. decided c .1 (h .0 e))
+  where
+    by : (x y : Bool) → (x ≡ true → y ≡ true) → (y ≡ true → x ≡ true) → x ≡ y
+    by true true f g = refl
+    by true false f g = sym (f refl)
+    by false true f g = g refl
+    by false false f g = refl
 
 -- the house spelling by K
 abbrev pub spellBy : OptionalNote → Kind → Four → List ℕ
@@ -45,31 +60,62 @@ pub negated : (b c : Bool) → not b ≡ c → b ≡ not c
 negated true c e = ap not e
 negated false c e = ap not e
 
--- by another name
-gave-as : {o p : Outcome} {r : Answer} {bs bs′ : List ℕ} → o ≡ p → Gave o r bs bs′ → Gave p r bs bs′
-gave-as {o} {p} {r} {bs} {bs′} e g = subst (λ (q : Outcome). Gave q r bs bs′) e g
+-- ---- from the questions to the outcome
+
+module _ (room : ℕ) (f : Four) where
+  pub short-buffer : room < 112 → writeOf room f ≡ refused 6
+  unfolding writeOf
+  short-buffer h = ap (λ (b : Bool). cond b (refused 6) (answerTo f)) (lt-ltb room 112 h)
+
+  pub long-buffer : 112 ≤ room → writeOf room f ≡ answerTo f
+  unfolding writeOf
+  long-buffer h = ap (λ (b : Bool). cond b (refused 6) (answerTo f)) (le-ltb room 112 h)
+
+module _ (f : Four) where
+  pub answered : (b : Bool) → realizable f ≡ b → answerTo f ≡ cond b (spelled (house f)) (refused 7)
+  answered b e = ap (λ (x : Bool). cond x (spelled (house f)) (refused 7)) e
+
+  -- ---- and back
+
+  pub data Way : Outcome → Type 0 where
+    has : realizable f ≡ true → Way (spelled (house f))
+    lacks : realizable f ≡ false → Way (refused 7)
+
+  pub way : Way (answerTo f)
+  way = by (realizable f) refl
+    where
+      by : (b : Bool) → realizable f ≡ b → Way (cond b (spelled (house f)) (refused 7))
+      by true e = has e
+      by false e = lacks e
+
+pub data Asked (room : ℕ) (f : Four) : Outcome → Type 0 where
+  short : room < 112 → Asked room f (refused 6)
+  enough : 112 ≤ room → Asked room f (answerTo f)
+
+pub asked-first : (room : ℕ) (f : Four) → Asked room f (writeOf room f)
+unfolding writeOf
+asked-first room f = by (ltb room 112) refl
+  where
+    by : (b : Bool) → ltb room 112 ≡ b → Asked room f (cond b (refused 6) (answerTo f))
+    by true e = short (ltb-true room 112 e)
+    by false e = enough (ltb-false room 112 e)
+
+-- ---- what the code gave
 
 -- a refusal leaves the buffer as it was
-gave-none : (r : Answer) (bs : List ℕ) → Gave (refused r) r bs bs
-gave-none r bs = record { answer = refl; buffer = refl }
+gave-none : {o : Outcome} {k : ℕ} (r : Answer) (bs : List ℕ) → o ≡ refused k → numberOf r ≡ k → lengthOf r ≡ 0 → Gave o r bs bs
+gave-none r bs e n l = subst (λ (o : Outcome). Gave o r bs bs) (sym e) (record { number = n; size = l; buffer = refl })
 
 module _ (f : Four) (bs : List ℕ) where
-  short : length bs < 112 → writeOf (length bs) f ≡ refused ShortBuffer
-  unfolding writeOf
-  short h = ap (λ (b : Bool). cond b (refused ShortBuffer) (cond (realizable f) (spelled (house f)) (refused NoText))) (lt-ltb (length bs) 112 h)
-
   pub gave-short : length bs < 112 → Gave (writeOf (length bs) f) ShortBuffer bs bs
-  gave-short h = gave-as (sym (short h)) (gave-none ShortBuffer bs)
+  gave-short h = gave-none ShortBuffer bs (short-buffer (length bs) f h) refl refl
 
   module _ (h : 112 ≤ length bs) where
-    long : writeOf (length bs) f ≡ cond (realizable f) (spelled (house f)) (refused NoText)
-    unfolding writeOf
-    long = ap (λ (b : Bool). cond b (refused ShortBuffer) (cond (realizable f) (spelled (house f)) (refused NoText))) (le-ltb (length bs) 112 h)
-
     pub gave-no-text : realizable f ≡ false → Gave (writeOf (length bs) f) NoText bs bs
-    gave-no-text e = gave-as (sym (long ∙ ap (λ (b : Bool). cond b (spelled (house f)) (refused NoText)) e)) (gave-none NoText bs)
+    gave-no-text e = gave-none NoText bs (long-buffer (length bs) f h ∙ answered f false e) refl refl
 
     pub gave-spelled : {r : ℕ} {bs′ : List ℕ} → realizable f ≡ true → Put 0 r (house f) bs bs′ → Gave (writeOf (length bs) f) (Spelled r) bs bs′
     gave-spelled {r} {bs′} e w =
         let k : r ≡ length (house f) = omega (arith, w .count) in
-        gave-as (sym (long ∙ ap (λ (b : Bool). cond b (spelled (house f)) (refused NoText)) e)) (record { answer = ap Spelled k; buffer = put-whole w })
+        subst (λ (o : Outcome). Gave o (Spelled r) bs bs′) (sym (long-buffer (length bs) f h ∙ answered f true e))
+        (record { number = refl; size = k; buffer = put-whole w })

@@ -1,22 +1,29 @@
--- What the code gave: the answer and the whole lent buffer, as an outcome says; and what a part of it writes.
+-- What the code gave: the answer by its number and length and the whole lent buffer, as an outcome says; and what a part of it writes.
 use mathlib.Core.Bool.{cond}
 use mathlib.Core.List.{List, [], _++_, map}
 use mathlib.Core.Path.{_≡_}
 use Prim.Native.Nat.{ℕ, _+_}
 use lib.ListN.{drop, getD, length, replicate, take}
+use Rattle.chord.specs.Chord.{fourOf}
 use Rattle.chord.specs.Interval.{Set}
+use Rattle.chord.specs.declared.Chord.{Chord}
 use Rattle.chord.specs.declared.note.OptionalNote.the-variants.{None}
 use Rattle.chord.specs.declared.note.OptionalNote.{OptionalNote}
 use Rattle.house.specs.House.{conditionAt, isSome, noteIn, parts}
 use Rattle.house.specs.declared.kind.Kind.{Kind}
 use Rattle.lexer.specs.Text.{ascii}
 use Rattle.pieces.specs.Spelling.{noteText, texts, written}
-use Rattle.writer.specs.Writer.{Outcome}
+use Rattle.writer.specs.Writer.{Outcome, lengthOf, numberOf, writeOf}
 use Rattle.writer.specs.declared.Answer.{Answer}
 
 pub record Gave (o : Outcome) (r : Answer) (bs bs′ : List ℕ) : Type 0 where
-  pub answer : r ≡ o .answer
+  pub number : numberOf r ≡ o .number
+  pub size : lengthOf r ≡ o .length
   pub buffer : bs′ ≡ o .bytes ++ drop (length (o .bytes)) bs
+
+-- what a caller of `write` knows: the record was written into the lent buffer bs, which is bs′ now, and the answer is r
+abbrev pub Written : Chord → (bs bs′ : List ℕ) → Answer → Type 0
+Written c bs bs′ r = Gave (writeOf (length bs) (fourOf c)) r bs bs′
 
 -- the first n bytes became the first r, with `more` behind them, and the rest of the buffer is untouched
 pub record Put (n r : ℕ) (more : List ℕ) (bs bs′ : List ℕ) : Type 0 where

@@ -1,8 +1,6 @@
 -- Writing a record: the two questions of document 01, in their order, over the definitions of the layers.
-use mathlib.Core.Bool.{cond, true}
+use mathlib.Core.Bool.{cond}
 use mathlib.Core.List.{List, []}
-use mathlib.Core.Logic.{_↔_}
-use mathlib.Core.Path.{_≡_}
 use Prim.Native.Nat.{ℕ}
 use lib.Dec.{ltb}
 use lib.ListN.{length}
@@ -24,23 +22,29 @@ lengthOf (Spelled n) = n
 lengthOf ShortBuffer = 0
 lengthOf NoText = 0
 
--- what writing gives: the answer, and what the lent buffer begins with after it
+-- what writing gives: the paper's number, the length, and what the lent buffer begins with after it
 pub record Outcome : Type 0 where
-  pub answer : Answer
+  pub number : ℕ
+  pub length : ℕ
   pub bytes : List ℕ
 
 -- "Numbers .. 6, 7 .. leave the lent memory untouched."
-abbrev pub refused : Answer → Outcome
-refused a = record { answer = a; bytes = [] }
+abbrev pub refused : ℕ → Outcome
+refused n = record { number = n; length = 0; bytes = [] }
 
 -- "A written spelling fills its own bytes only and its length is returned."
 abbrev pub spelled : List ℕ → Outcome
-spelled t = record { answer = Spelled (length t); bytes = t }
+spelled t = record { number = 0; length = length t; bytes = t }
 
--- "Does the buffer hold at least 112 bytes? No: 6. Has some accepted text exactly these four? No: 7."
+-- the answer to a record, given a buffer that is long enough: "Has some accepted text exactly these four? No: 7." (`realizable` is that question
+-- as a test.)
+abbrev pub answerTo : Four → Outcome
+answerTo f = cond (realizable f) (spelled (house f)) (refused 7)
+
+-- "Does the buffer hold at least 112 bytes? No: 6."
 unfoldable pub writeOf : ℕ → Four → Outcome
-writeOf room f = cond (ltb room 112) (refused ShortBuffer) (cond (realizable f) (spelled (house f)) (refused NoText))
+writeOf room f = cond (ltb room 112) (refused 6) (answerTo f)
 
--- "Has some accepted text exactly these four?": the test is that question
-abbrev pub Decided : Four → Type 0
-Decided f = (realizable f ≡ true) ↔ ((t : List ℕ) × IsAccepted t f)
+-- "Has some accepted text exactly these four?"
+abbrev pub HasText : Four → Type 0
+HasText f = (t : List ℕ) × IsAccepted t f

@@ -1,12 +1,13 @@
 // Writing a record: the two questions, in the paper's order, and its house spelling.
+ghost use mathlib.Core.Bool.{true};
+ghost use mathlib.Core.Logic.{_↔_};
 ghost use mathlib.Core.Path.{_≡_};
 ghost use Prim.Native.Nat.{_≤_};
 ghost use lib.ListN.{length};
 ghost use Rattle.chord.specs.Chord.{fourOf};
-ghost use Rattle.house.specs.Question.{realizable};
 ghost use Rattle.pieces.specs.Spelling.{house};
-ghost use Rattle.writer.specs.State.{Gave, Put};
-ghost use Rattle.writer.specs.Writer.{Decided, writeOf};
+ghost use Rattle.writer.specs.State.{Put, Written};
+ghost use Rattle.writer.specs.Writer.{HasText};
 use chord::Chord;
 use chord::note::OptionalNote;
 use house::kind::kind_in;
@@ -22,9 +23,9 @@ pub enum Answer {
     NoText,
 }
 
-// Has some accepted text exactly the record's four? The answer is the test `realizable`, and the test is that question.
+// Has some accepted text exactly the record's four?
 pub fn has_text(chord: Chord) -> bool
-    ensures { λ r. ⌜ (r ≡ realizable (fourOf chord)) × Decided (fourOf chord) ⌝ }
+    ensures { λ r. ⌜ ((r ≡ true) ↔ HasText (fourOf chord)) ⌝ }
 {
     is_realizable(chord)
 }
@@ -46,7 +47,7 @@ fn spell(chord: Chord, buffer: &mut [u8]) -> usize
 
 // Writes any record, with any lent buffer. The spelling fills its own bytes, from the first on; all else in the buffer is untouched.
 pub fn write(chord: Chord, buffer: &mut [u8]) -> Answer
-    ensures { λ r. ⌜ Gave (writeOf (length (now (buffer .entry))) (fourOf chord)) r (now (buffer .entry)) (now (buffer .exit)) ⌝ }
+    ensures { λ r. ⌜ Written chord (now (buffer .entry)) (now (buffer .exit)) r ⌝ }
 {
     if buffer.len() < 112 {
         return Answer::ShortBuffer;

@@ -1,10 +1,10 @@
 -- The code asks the definition's questions in its order.
 -- Assumes nothing.
-use mathlib.Core.Path.{sym, _∙_}
+use mathlib.Core.Path.{_∙_}
 use native.Mathlib.Omega.{arith}
 use borrow.Author.Needs.{needs}
 use Rattle.chord.specs.Chord.{fourOf}
-use Rattle.writer.proofs.Answers.{negated, gave-short, gave-no-text, gave-spelled}
+use Rattle.writer.proofs.Answers.{gave-no-text, gave-short, gave-spelled, is-test, negated}
 use Rattle.writer.proofs.write.Statement.{statement}
 use Rattle.writer.proofs.write.Tie as tie
 
@@ -19,7 +19,7 @@ has-text-requires c κs = search needs
 returns-2 : tie.Need-returns-2
 returns-2 c =
     let a = c .before .before .before .before .args in
-    gave-no-text (fourOf (a .chord)) (a .buffer .now) (c .before .before .if1 .left) (sym (c .before .has-text .ensures .0) ∙ negated _ _ (c .if2 .taken))
+    gave-no-text (fourOf (a .chord)) (a .buffer .now) (c .before .before .if1 .left) (is-test (a .chord) (c .before .has-text .result) (c .before .has-text .ensures) ∙ negated _ _ (c .if2 .taken))
 
 spell-requires : tie.Need-spell-requires
 spell-requires c κs = search needs
@@ -30,7 +30,8 @@ same-length c = search needs
 returns-3 : tie.Need-returns-3
 returns-3 c =
     let a = c .before .before .before .before .before .before .before .before .args in
-    gave-spelled (fourOf (a .chord)) (a .buffer .now) (c .before .before .before .before .before .before .if1 .left) (sym (c .before .before .before .before .before .has-text .ensures .0) ∙ negated _ _ (c .before .before .before .before .if2 .left)) (c .before .before .spell .ensures)
+    let t = c .before .before .before .before .before .has-text in
+    gave-spelled (fourOf (a .chord)) (a .buffer .now) (c .before .before .before .before .before .before .if1 .left) (is-test (a .chord) (t .result) (t .ensures) ∙ negated _ _ (c .before .before .before .before .if2 .left)) (c .before .before .spell .ensures)
 
 pub write-spec : {M : Type 1} → statement M
 write-spec =
