@@ -16,11 +16,11 @@ use Rattle.chord.specs.declared.interval.IntervalList.{IntervalList}
 use Rattle.chord.specs.declared.note.OptionalNote.the-variants.{None, Some}
 use Rattle.chord.specs.declared.note.OptionalNote.{OptionalNote}
 use Rattle.chord.specs.declared.note.RootModifier.the-variants.{Natural}
-use Rattle.nophtris.specs.Boundary.{areBits, chordBytes, listBytes, modifierIn, noteBytes, setBytes}
+use Rattle.nophtris.specs.Boundary.{areBits, chordBytes, isAlteration, listBytes, modifierIn, noteBytes, setBytes}
 
 -- ---- a byte that is none of an arm's
 
-pub alteration-none : (a : ℕ) → (a ≡ 0 → ⊥) → (a ≡ 1 → ⊥) → (a ≡ 255 → ⊥) → false ≡ eqb a 0 || (eqb a 1 || eqb a 255)
+pub alteration-none : (a : ℕ) → (a ≡ 0 → ⊥) → (a ≡ 1 → ⊥) → (a ≡ 255 → ⊥) → false ≡ isAlteration a
 alteration-none a x y z = rw (ne-eqb a 0 x, ne-eqb a 1 y, ne-eqb a 255 z)
 
 pub modifier-none : (a : ℕ) → (a ≡ 1 → ⊥) → (a ≡ 255 → ⊥) → Natural ≡ modifierIn a

@@ -1,36 +1,38 @@
 -- The C boundary: a record as 51 bytes, and what the two functions answer and leave in the memory that they are lent.
 use mathlib.Core.Bool.{Bool, true, cond, _&&_, _||_}
 use mathlib.Core.List.{List, [], _∷_, _++_}
-use Prim.Native.Nat.{ℕ, zero, suc, _+_}
+use mathlib.Core.Option.{Option, none, some}
+use Prim.Native.Nat.{ℕ, zero, suc, _+_, _-_}
 use lib.Dec.{eqb, leb, ltb}
+use lib.IntN.{ℤ, pos, negsuc}
 use lib.ListN.{drop, getD, length, replicate, take}
 use Rattle.chord.specs.Chord.{Four}
 use Rattle.chord.specs.Interval.{Set}
-use Rattle.chord.specs.Note.{letterNumber, letterOf}
+use Rattle.chord.specs.Note.{alterationOf, letterNumber, letterOf}
 use Rattle.chord.specs.declared.note.OptionalNote.the-variants.{None, Some}
 use Rattle.chord.specs.declared.note.OptionalNote.{OptionalNote}
 use Rattle.chord.specs.declared.note.RootModifier.the-variants.{Natural, Sharp, Flat}
 use Rattle.chord.specs.declared.note.RootModifier.{RootModifier}
-use Rattle.reader.specs.declared.Answer.the-variants as read
-use Rattle.reader.specs.declared.Answer.{Answer as Read}
+use Rattle.reader.specs.Reader as reader
 use Rattle.writer.specs.Writer as writer
-use Rattle.writer.specs.declared.Answer.the-variants as written
-use Rattle.writer.specs.declared.Answer.{Answer as Written}
 
 -- ---- a record as bytes, in the order of the struct's fields
 
--- "-1, 0, 1": -1 is the byte 255
-abbrev pub alterationByte : RootModifier → ℕ
-alterationByte Natural = 0
-alterationByte Sharp = 1
-alterationByte Flat = 255
+-- a number from -128 to 127 as the byte of an int8_t: -1 is 255
+abbrev pub byteOf : ℤ → ℕ
+byteOf (pos n) = n
+byteOf (negsuc n) = 255 - n
 
--- "C 0 .. B 6, 255 none"; the alteration of none is 0
+-- "alteration (-1, 0, 1)"
+abbrev pub alterationByte : RootModifier → ℕ
+alterationByte m = byteOf (alterationOf m)
+
+-- "C 0 to B 6", 255 none; "its alteration (0 if none)"
 abbrev pub noteBytes : OptionalNote → List ℕ
 noteBytes None = 255 ∷ 0 ∷ []
 noteBytes (Some n) = letterNumber (n .literal) ∷ alterationByte (n .modifier) ∷ []
 
--- "1 member, 0 not", of n numbers from i on
+-- 1 for a member, 0 for none, of n numbers from i on
 abbrev pub setBytes : ℕ → ℕ → Set → List ℕ
 setBytes zero i s = []
 setBytes (suc n) i s = cond (s i) 1 0 ∷ setBytes n (suc i) s
@@ -42,16 +44,17 @@ listBytes d = length d ∷ take 23 (d ++ replicate 23 0)
 unfoldable pub chordBytes : Four → List ℕ
 chordBytes f = noteBytes (f .root) ++ (noteBytes (f .bass) ++ (setBytes 23 0 (f .normalized) ++ listBytes (f .display)))
 
--- ---- the record of any 51 bytes
+-- ---- the four of any 51 bytes, if they hold one
 
+-- the values, field by field
 abbrev pub modifierIn : ℕ → RootModifier
-modifierIn a = cond (eqb a 1) Sharp (cond (eqb a 255) Flat Natural)
+modifierIn a = cond (eqb a (alterationByte Sharp)) Sharp (cond (eqb a (alterationByte Flat)) Flat Natural)
 
 abbrev pub noteIn : ℕ → ℕ → OptionalNote
 noteIn l a = cond (eqb l 255) None (Some (record { literal = letterOf l; modifier = modifierIn a }))
 
-unfoldable pub fourIn : List ℕ → Four
-fourIn bs =
+unfoldable pub valuesIn : List ℕ → Four
+valuesIn bs =
     record {
       root = noteIn (getD bs 0 0) (getD bs 1 0);
       bass = noteIn (getD bs 2 0) (getD bs 3 0);
@@ -59,9 +62,13 @@ fourIn bs =
       display = take (getD bs 27 0) (take 23 (drop 28 bs));
     }
 
--- its values lie inside the table: a letter below 7 with an alteration, or none; 0 or 1 for each interval; a count of at most 23
+-- each lies in its range: a letter below 7 with an alteration, or none with the alteration 0; 0 or 1 for each interval; a count of at most 23.
+-- The numbers behind the count are not looked at.
+abbrev pub isAlteration : ℕ → Bool
+isAlteration a = eqb a (alterationByte Natural) || (eqb a (alterationByte Sharp) || eqb a (alterationByte Flat))
+
 abbrev pub isNote : ℕ → ℕ → Bool
-isNote l a = eqb l 255 || ltb l 7 && (eqb a 0 || (eqb a 1 || eqb a 255))
+isNote l a = cond (eqb l 255) (eqb a 0) (ltb l 7 && isAlteration a)
 
 abbrev pub areBits : List ℕ → Bool
 areBits [] = true
@@ -71,33 +78,30 @@ unfoldable pub inside : List ℕ → Bool
 inside bs =
     isNote (getD bs 0 0) (getD bs 1 0) && (isNote (getD bs 2 0) (getD bs 3 0) && (leb (getD bs 27 0) 23 && areBits (take 23 (drop 4 bs))))
 
+-- none where a value lies outside its range
+unfoldable pub fourIn : List ℕ → Option Four
+fourIn bs = cond (inside bs) (some (valuesIn bs)) none
+
 -- ---- reading
 
--- "`count` is written only with 4 and 5, `chord` only with 0"
-abbrev pub countAfter : Read → ℕ → ℕ
-countAfter read.Accepted c = c
-countAfter read.ShortList c = c
-countAfter read.LongText c = c
-countAfter read.NotUtf8 c = c
-countAfter (read.Parse n) c = n
-countAfter (read.Validation n) c = n
+-- the count is written with 4 and 5 only, the record with 0 only
+abbrev pub countAfter : reader.Outcome → ℕ → ℕ
+countAfter o c = cond (eqb (o .number) 4 || eqb (o .number) 5) (o .count) c
 
-abbrev pub chordAfter : Read → Four → List ℕ → List ℕ
-chordAfter read.Accepted f bs = chordBytes f
-chordAfter read.ShortList f bs = bs
-chordAfter read.LongText f bs = bs
-chordAfter read.NotUtf8 f bs = bs
-chordAfter (read.Parse n) f bs = bs
-chordAfter (read.Validation n) f bs = bs
+abbrev pub chordAfter : reader.Outcome → List ℕ → List ℕ
+chordAfter o bs = cond (eqb (o .number) 0) (chordBytes (o .four)) bs
 
 -- ---- writing
 
--- "Any bytes in the struct are a record: values outside the table get 7."
-unfoldable pub writeIn : ℕ → List ℕ → writer.Outcome
-writeIn room bs = cond (ltb room 112) (writer.refused written.ShortBuffer) (cond (inside bs) (writer.writeOf room (fourIn bs)) (writer.refused written.NoText))
+-- "Has some accepted text exactly these four? No: 7.": so it is too where the bytes hold none
+abbrev pub answerTo : Option Four → writer.Outcome
+answerTo none = writer.refused 7
+answerTo (some f) = writer.answerTo f
 
--- "`length` only with a written spelling"
-abbrev pub lengthAfter : Written → ℕ → ℕ
-lengthAfter (written.Spelled n) l = n
-lengthAfter written.ShortBuffer l = l
-lengthAfter written.NoText l = l
+-- "Does the buffer hold at least 112 bytes? No: 6."
+unfoldable pub writeIn : ℕ → List ℕ → writer.Outcome
+writeIn room bs = cond (ltb room 112) (writer.refused 6) (answerTo (fourIn bs))
+
+-- the length is written with a spelling only
+abbrev pub lengthAfter : writer.Outcome → ℕ → ℕ
+lengthAfter o l = cond (eqb (o .number) 0) (o .length) l

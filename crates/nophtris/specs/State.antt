@@ -5,15 +5,24 @@ use Prim.Native.Nat.{ℕ}
 use lib.ListN.{drop, length}
 use Rattle.reader.specs.Reader as reader
 use Rattle.writer.specs.Writer as writer
-use Rattle.nophtris.specs.Boundary.{chordAfter, countAfter, lengthAfter}
+use Rattle.nophtris.specs.Boundary.{chordAfter, countAfter, lengthAfter, writeIn}
 
-pub record GaveRead (o : reader.Outcome) (r : ℕ) (es es′ : List ℕ) (c c′ : ℕ) (bs bs′ : List ℕ) : Type 0 where
-  pub number : r ≡ reader.numberOf (o .answer)
+pub record GaveRead (o : reader.Outcome) (r : ℕ) (es es′ : List ℕ) (c c′ : ℕ) (cs cs′ : List ℕ) : Type 0 where
+  pub number : r ≡ o .number
   pub errors : es′ ≡ o .errs ++ drop (length (o .errs)) es
-  pub count : c′ ≡ countAfter (o .answer) c
-  pub chord : bs′ ≡ chordAfter (o .answer) (o .four) bs
+  pub count : c′ ≡ countAfter o c
+  pub chord : cs′ ≡ chordAfter o cs
 
 pub record GaveWritten (o : writer.Outcome) (r : ℕ) (bs bs′ : List ℕ) (l l′ : ℕ) : Type 0 where
-  pub number : r ≡ writer.numberOf (o .answer)
+  pub number : r ≡ o .number
   pub buffer : bs′ ≡ o .bytes ++ drop (length (o .bytes)) bs
-  pub length : l′ ≡ lengthAfter (o .answer) l
+  pub size : l′ ≡ lengthAfter o l
+
+-- what a caller of `nophtris_read` knows: of a text it answered r; the list of errors was es and is es′, the count c and c′, the 51 bytes of the
+-- chord cs and cs′
+abbrev pub Read : (text es es′ : List ℕ) (c c′ : ℕ) (cs cs′ : List ℕ) (r : ℕ) → Type 0
+Read text es es′ c c′ cs cs′ r = GaveRead (reader.readOf (length es) text) r es es′ c c′ cs cs′
+
+-- and of `nophtris_write`: of the 51 bytes cs it answered r; the buffer was bs and is bs′, the length l and l′
+abbrev pub Write : (cs bs bs′ : List ℕ) (l l′ r : ℕ) → Type 0
+Write cs bs bs′ l l′ r = GaveWritten (writeIn (length bs) cs) r bs bs′ l l′

@@ -1,5 +1,5 @@
 // The C boundary: include/nophtris.h declares the two functions. A record is 51 bytes there.
-ghost use mathlib.Core.Bool.{cond, _||_};
+ghost use mathlib.Core.Bool.{cond};
 ghost use mathlib.Core.List.{[], _∷_};
 ghost use mathlib.Core.Path.{_≡_};
 ghost use Prim.Native.Nat.{_+_, _≤_, _<_};
@@ -7,10 +7,9 @@ ghost use lib.Dec.{eqb, ltb};
 ghost use lib.ListN.{drop, length, take};
 ghost use Rattle.chord.specs.Chord.{fourOf, members, listed};
 ghost use Rattle.chord.specs.Interval.{insert};
-ghost use Rattle.reader.specs.Reader.{readOf};
 ghost use Rattle.writer.specs.State.{Put};
-ghost use Rattle.nophtris.specs.Boundary.{alterationByte, noteBytes, setBytes, listBytes, chordBytes, modifierIn, noteIn, fourIn, isNote, areBits, inside, writeIn};
-ghost use Rattle.nophtris.specs.State.{GaveRead, GaveWritten};
+ghost use Rattle.nophtris.specs.Boundary.{alterationByte, areBits, chordBytes, inside, isAlteration, isNote, listBytes, modifierIn, noteBytes, noteIn, setBytes, valuesIn};
+ghost use Rattle.nophtris.specs.State.{Read, Write};
 use chord::Chord;
 use chord::interval::IntervalList;
 use chord::interval::IntervalSet;
@@ -127,7 +126,7 @@ pub extern "C" fn nophtris_read(
     count: &mut u16,
     chord: &mut [u8; 51],
 ) -> u8
-    ensures { λ r. ⌜ GaveRead (readOf (length (now (errors .entry))) (now (text .entry))) r (now (errors .entry)) (now (errors .exit)) (now (count .entry)) (now (count .exit)) (now (chord .entry)) (now (chord .exit)) ⌝ }
+    ensures { λ r. ⌜ Read (now (text .entry)) (now (errors .entry)) (now (errors .exit)) (now (count .entry)) (now (count .exit)) (now (chord .entry)) (now (chord .exit)) r ⌝ }
 {
     let r = reader::read(text, errors);
     let answer = r.answer;
@@ -163,7 +162,7 @@ fn modifier(a: u8) -> RootModifier
 }
 
 fn is_alteration(a: u8) -> bool
-    ensures { λ r. ⌜ r ≡ (eqb a 0 || (eqb a 1 || eqb a 255)) ⌝ }
+    ensures { λ r. ⌜ r ≡ isAlteration a ⌝ }
 {
     match a {
         0 => true,
@@ -186,11 +185,12 @@ fn note(letter: u8, alteration: u8) -> OptionalNote
     })
 }
 
+// Are the two bytes a note? No note has the alteration 0.
 fn is_note(letter: u8, alteration: u8) -> bool
     ensures { λ r. ⌜ r ≡ isNote letter alteration ⌝ }
 {
     if letter == 255 {
-        return true;
+        return alteration == 0;
     }
     if letter < 7 {
         return is_alteration(alteration);
@@ -212,7 +212,7 @@ fn with_member(set: IntervalSet, i: u8, byte: u8) -> IntervalSet
 // The set whose members have 1. The bytes come as a slice, since the proof is told the length of an array only where it becomes one.
 fn set_in(bytes: &[u8]) -> IntervalSet
     requires { ⌜ length (now bytes) ≡ 51 ⌝ }
-    ensures { λ r. ⌜ members r ≡ fourIn (now (bytes .entry)) .normalized ⌝ }
+    ensures { λ r. ⌜ members r ≡ valuesIn (now (bytes .entry)) .normalized ⌝ }
 {
     let mut set = IntervalSet::new();
     let mut i = 0;
@@ -232,7 +232,7 @@ fn wide(byte: u8) -> usize
 // The list of the count and the 23 numbers behind it.
 fn list_in(bytes: &[u8]) -> IntervalList
     requires { ⌜ length (now bytes) ≡ 51 ⌝ }
-    ensures { λ r. ⌜ listed r ≡ fourIn (now (bytes .entry)) .display ⌝ }
+    ensures { λ r. ⌜ listed r ≡ valuesIn (now (bytes .entry)) .display ⌝ }
 {
     let mut numbers = [0; 23];
     let mut i = 0;
@@ -279,7 +279,7 @@ fn is_inside(bytes: &[u8]) -> bool
 
 fn decode(bytes: &[u8]) -> Chord
     requires { ⌜ length (now bytes) ≡ 51 ⌝ }
-    ensures { λ r. ⌜ fourOf r ≡ fourIn (now (bytes .entry)) ⌝ }
+    ensures { λ r. ⌜ fourOf r ≡ valuesIn (now (bytes .entry)) ⌝ }
 {
     Chord {
         root: note(bytes[0], bytes[1]),
@@ -292,7 +292,7 @@ fn decode(bytes: &[u8]) -> Chord
 // Writes any record. The number is returned, 0 for a written spelling; only then its length goes to `size`.
 #[no_mangle]
 pub extern "C" fn nophtris_write(chord: &[u8; 51], buffer: &mut [u8], size: &mut u16) -> u8
-    ensures { λ r. ⌜ GaveWritten (writeIn (length (now (buffer .entry))) (now (chord .entry))) r (now (buffer .entry)) (now (buffer .exit)) (now (size .entry)) (now (size .exit)) ⌝ }
+    ensures { λ r. ⌜ Write (now (chord .entry)) (now (buffer .entry)) (now (buffer .exit)) (now (size .entry)) (now (size .exit)) r ⌝ }
 {
     if buffer.len() < 112 {
         return 6;

@@ -1,7 +1,7 @@
 -- Field by field.
 -- Assumes nothing.
 use borrow.Author.Needs.{needs}
-use Rattle.nophtris.specs.Boundary.{fourIn}
+use Rattle.nophtris.specs.Boundary.{valuesIn}
 use Rattle.nophtris.proofs.decode.Statement.{statement}
 use Rattle.nophtris.proofs.decode.Tie as tie
 
@@ -30,7 +30,7 @@ list-in-requires : tie.Need-list-in-requires
 list-in-requires c κs = search needs
 
 returns : tie.Need-returns
-unfolding fourIn
+unfolding valuesIn
 returns c =
     let b2 = c .before .before in
     λ i. record { root = b2 .before .before .before .note .ensures i; bass = b2 .note2 .ensures i; normalized = c .before .set-in .ensures i; display = c .list-in .ensures i }

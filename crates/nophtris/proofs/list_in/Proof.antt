@@ -7,7 +7,7 @@ use lib.ListN.{drop, getD, length, length-drop, length-set, take}
 use lib.Seq.{getD-drop, take-all}
 use borrow.Author.Needs.{needs}
 use Rattle.chord.specs.Chord.{listed}
-use Rattle.nophtris.specs.Boundary.{fourIn}
+use Rattle.nophtris.specs.Boundary.{valuesIn}
 use Rattle.nophtris.proofs.Bytes.{listed-next}
 use Rattle.nophtris.proofs.list_in.Statement.{statement}
 use Rattle.nophtris.proofs.list_in.Tie as tie
@@ -53,7 +53,7 @@ wide-requires : tie.Need-wide-requires Inv-loop μ-loop
 wide-requires c κs = search needs
 
 returns : tie.Need-returns Inv-loop μ-loop
-unfolding listed fourIn
+unfolding listed valuesIn
 returns c =
     let b3 = c .before .before .before in
     let bs = b3 .before .before .args .bytes .now in

@@ -1,11 +1,14 @@
 -- The code asks the definition's questions in its order, and the writer's answer is matched. No spelling is longer than 112 bytes.
 -- Assumes nothing.
-use mathlib.Core.Path.{sym, _∙_}
+use mathlib.Core.Path.{subst, sym, _∙_}
+use Prim.Native.Nat.{_≤_}
 use native.Mathlib.Omega.{arith}
 use lib.ListN.{length}
 use borrow.Author.Needs.{needs}
 use borrow.Author.Tests.{not-true, not-false}
 use Rattle.chord.specs.Chord.{fourOf}
+use Rattle.writer.specs.Writer.{lengthOf}
+use Rattle.writer.specs.declared.Answer.{Answer as Written}
 use Rattle.writer.specs.declared.Answer.the-variants.{Spelled, ShortBuffer, NoText}
 use Rattle.nophtris.proofs.Answers.{gave-short, gave-outside, gave-inside, spelled-few}
 use Rattle.nophtris.proofs.nophtris_write.Statement.{statement}
@@ -39,7 +42,8 @@ cast-size c =
     let b5 = c .before .before .before .before .before in
     let b7 = b5 .before .before in
     let a = b7 .before .before .before .before .before .before .before .args in
-    omega (arith, spelled-few (length (a .buffer .now)) (fourOf (b7 .decode .result)) (b5 .write .ensures .answer) (c .before .n .given .1))
+    let k = subst (λ (x : Written). lengthOf x ≤ 112) (c .before .n .given .1) (spelled-few (length (a .buffer .now)) (fourOf (b7 .decode .result)) (b5 .write .ensures)) in
+    omega (arith, k)
 
 enum-told : tie.Need-enum-told
 enum-told c = search needs

@@ -9,7 +9,7 @@ use lib.ListN.{getD}
 use borrow.Author.Needs.{needs}
 use Rattle.chord.specs.Chord.{members}
 use Rattle.chord.specs.Interval.{Set}
-use Rattle.nophtris.specs.Boundary.{fourIn}
+use Rattle.nophtris.specs.Boundary.{valuesIn}
 use Rattle.nophtris.proofs.Bytes.{inserted, none-yet}
 use Rattle.nophtris.proofs.set_in.Statement.{statement}
 use Rattle.nophtris.proofs.set_in.Tie as tie
@@ -51,7 +51,7 @@ loop-again c =
     (omega arith, λ k. ap (λ (s : Set). s k) (c .with-member .ensures) ∙ inserted (members (l .set)) f (l .i) (l .inv .1) k)
 
 returns : tie.Need-returns Inv-loop μ-loop
-unfolding fourIn
+unfolding valuesIn
 returns c =
     let bs = c .before .before .before .before .args .bytes .now in
     let e : c .before .loop .i ≡ 23 = omega (arith, c .before .loop .inv .0, c .loop-test .left) in
