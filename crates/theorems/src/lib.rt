@@ -1,1 +1,1 @@
-// No code: the theorems that answer the demands stand in specs/.
+// No code: the statements that answer the demands stand in specs/, their proofs in proofs/.

@@ -1,0 +1,9 @@
+-- The proofs of the statements of specs/.
+pub mod Counts
+pub mod Errors
+pub mod Specimens
+pub mod Decoding
+pub mod Readings
+pub mod Writings
+pub mod Trips
+pub mod Theorems

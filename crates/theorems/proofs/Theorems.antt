@@ -1,0 +1,37 @@
+-- Every statement of specs/ has its proof.
+-- Assumes nothing.
+use Rattle.theorems.proofs.Readings.{c-read-errors, c-read-numbered, c-read-record, c-read-untouched, read-apart, read-errors, read-numbered, read-record, read-untouched}
+use Rattle.theorems.proofs.Specimens.{read-as-said}
+use Rattle.theorems.proofs.Trips.{any-written-then-read, c-any-written-then-read, c-read-then-write, c-same-spelling, c-write-then-read, read-then-write, same-spelling, write-then-read}
+use Rattle.theorems.proofs.Writings.{c-write-numbered, c-write-spelled, c-write-untouched, write-apart, write-numbered, write-spelled, write-untouched}
+use Rattle.theorems.specs.Theorems.{Theorems}
+
+pub theorems : Theorems
+theorems =
+    record {
+      readNumbered = read-numbered;
+      readApart = read-apart;
+      readErrors = read-errors;
+      readUntouched = read-untouched;
+      readRecord = read-record;
+      writeNumbered = write-numbered;
+      writeApart = write-apart;
+      writeSpelled = write-spelled;
+      writeUntouched = write-untouched;
+      cReadNumbered = c-read-numbered;
+      cReadErrors = c-read-errors;
+      cReadUntouched = c-read-untouched;
+      cReadRecord = c-read-record;
+      cWriteNumbered = c-write-numbered;
+      cWriteSpelled = c-write-spelled;
+      cWriteUntouched = c-write-untouched;
+      readThenWrite = read-then-write;
+      writeThenRead = write-then-read;
+      anyWrittenThenRead = any-written-then-read;
+      sameSpelling = same-spelling;
+      cReadThenWrite = c-read-then-write;
+      cWriteThenRead = c-write-then-read;
+      cAnyWrittenThenRead = c-any-written-then-read;
+      cSameSpelling = c-same-spelling;
+      readAsSaid = read-as-said;
+    }

@@ -1,0 +1,40 @@
+-- All statements, in the order of the demands: proofs/Theorems.antt has a value of this record. That each call ends and that nothing in it is
+-- undefined is what it means that the functions are proved; that the caller has nothing to check first, that they have no `requires`.
+use Rattle.theorems.specs.CReading as C-reading
+use Rattle.theorems.specs.CTrips as C-trips
+use Rattle.theorems.specs.CWriting as C-writing
+use Rattle.theorems.specs.Reading as reading
+use Rattle.theorems.specs.Specimens.{ReadAsSaid}
+use Rattle.theorems.specs.Trips as trips
+use Rattle.theorems.specs.Writing as writing
+
+-- what a caller in Rattle and a caller in C hold
+pub record Theorems : Type 0 where
+  -- demands 1 and 2: "it succeeds or gives a number of document 01, with every lent buffer as that paper says"
+  pub readNumbered : reading.ReadNumbered
+  pub readApart : reading.ReadApart
+  pub readErrors : reading.ReadErrors
+  pub readUntouched : reading.ReadUntouched
+  pub readRecord : reading.ReadRecord
+  pub writeNumbered : writing.WriteNumbered
+  pub writeApart : writing.WriteApart
+  pub writeSpelled : writing.WriteSpelled
+  pub writeUntouched : writing.WriteUntouched
+  pub cReadNumbered : C-reading.ReadNumbered
+  pub cReadErrors : C-reading.ReadErrors
+  pub cReadUntouched : C-reading.ReadUntouched
+  pub cReadRecord : C-reading.ReadRecord
+  pub cWriteNumbered : C-writing.WriteNumbered
+  pub cWriteSpelled : C-writing.WriteSpelled
+  pub cWriteUntouched : C-writing.WriteUntouched
+  -- demand 3: the same spelling exactly for the same four; every accepted text has one, which reads as the same four
+  pub readThenWrite : trips.ReadThenWrite
+  pub writeThenRead : trips.WriteThenRead
+  pub anyWrittenThenRead : trips.AnyWrittenThenRead
+  pub sameSpelling : trips.SameSpelling
+  pub cReadThenWrite : C-trips.ReadThenWrite
+  pub cWriteThenRead : C-trips.WriteThenRead
+  pub cAnyWrittenThenRead : C-trips.AnyWrittenThenRead
+  pub cSameSpelling : C-trips.SameSpelling
+  -- the card specimens that have a star
+  pub readAsSaid : ReadAsSaid
