@@ -4,12 +4,12 @@
 use mathlib.Core.Bool.{Bool, true, false, not, _&&_, _||_}
 use mathlib.Core.Path.{_≡_, refl, sym, ap, ap₂, _∙_, subst}
 use Prim.Native.Nat.{ℕ, zero, suc, _+_, _-_, _*_, _/_, _%_, _^_, _<_, _≤_}
-use native.Mathlib.Nat.{one-mul, div-eq-of-lt, mod-one}
+use native.Mathlib.Nat.{one-mul, div-eq-of-lt, lt-of-lt-of-le, mod-one}
 use native.Mathlib.Omega.{arith}
 use lib.Bits.{bitAnd, bitOr, bitXor, and-shr, or-shr, xor-shr, and-mod, or-mod, xor-mod, shifted-even}
 use lib.Dec.{eqb, ltb, T}
-use lib.Pow.{field, mod-mod-pow, mod-pow-add, pow-add, pow-lt, shl-exact, shl-shr}
-use borrow.Author.Tests.{eqb-true, eqb-false, eq-eqb, ltb-true, ltb-false, lt-ltb}
+use lib.Pow.{field, mod-mod-pow, mod-pow-add, pow-add, pow-lt, pow-mono, shl-exact, shl-shr}
+use borrow.Author.Tests.{eqb-true, eqb-false, ltb-true, ltb-false}
 use Rattle.chord.specs.Chord.{bit}
 
 -- a remainder by 2 is 0 or 1
@@ -89,16 +89,17 @@ bit-power i k = go (eqb i k) refl
 pub power : (i : ℕ) → i < 32 → (1 * 2 ^ i) % 2 ^ 32 ≡ 2 ^ i
 power i h = shl-exact {a = 1} 1 i 32 (omega arith) (omega arith) ∙ one-mul (2 ^ i)
 
--- a remainder by 2 ^ n has the n low digits
-bit-low : (a n k : ℕ) → k < n → bit (a % 2 ^ n) k ≡ bit a k
+-- a remainder by 2 ^ n has the n low digits, and no digit above them
+pub bit-low : (a n k : ℕ) → k < n → bit (a % 2 ^ n) k ≡ bit a k
 unfolding bit
 bit-low a n k h =
     let j = n - suc k in
     let e : j + 1 + k ≡ n = omega arith in
     ap (λ (x : ℕ). eqb (a % 2 ^ x / 2 ^ k % 2) 1) (sym e) ∙ ap (λ (x : ℕ). eqb (x % 2) 1) (field a (j + 1) k) ∙ ap (λ (x : ℕ). eqb x 1) (mod-mod-pow (a / 2 ^ k) j 1)
 
-pub bits-same : (a b n : ℕ) → a % 2 ^ n ≡ b % 2 ^ n → (k : ℕ) → k < n → bit a k ≡ bit b k
-bits-same a b n e k h = sym (bit-low a n k h) ∙ ap (λ (x : ℕ). bit x k) e ∙ bit-low b n k h
+pub bit-above : (a n k : ℕ) → a < 2 ^ n → n ≤ k → bit a k ≡ false
+unfolding bit
+bit-above a n k h l = ap (λ (x : ℕ). eqb (x % 2) 1) (div-eq-of-lt (lt-of-lt-of-le h (pow-mono l)))
 
 top-same : (a b n : ℕ) → bit a n ≡ bit b n → a / 2 ^ n % 2 ≡ b / 2 ^ n % 2
 unfolding bit

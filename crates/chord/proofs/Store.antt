@@ -4,36 +4,37 @@ use mathlib.Core.Bool.{Bool, true, false, not, _&&_, _||_}
 use mathlib.Core.List.{List, map}
 use mathlib.Core.Path.{_≡_, refl, sym, ap, _∙_}
 use Prim.Native.Nat.{ℕ, _*_, _%_, _^_, _<_, _≤_}
-use native.Mathlib.Nat.{zero-div}
+use native.Mathlib.Nat.{mod-eq-of-lt, zero-div}
 use native.Mathlib.Omega.{arith}
 use lib.Dec.{eqb, ltb}
 use lib.Bits.{bitAnd, bitOr, bitXor}
 use lib.ListN.{length, getD, length-map, length-take}
 use lib.Seq.{getD-take}
-use borrow.Author.Tests.{eqb-true, lt-ltb, ltb-true, ltb-false}
-use Rattle.chord.proofs.Bits.{bit-or, bit-power, bit-without, bits-same, power, same-bits}
-use Rattle.chord.specs.Chord.{bit, listed}
+use borrow.Author.Tests.{eqb-true, lt-ltb, ltb-false}
+use Rattle.chord.proofs.Bits.{bit-or, bit-power, bit-without, power, same-bits}
+use Rattle.chord.specs.Chord.{bit, listed, members}
 use Rattle.chord.specs.Interval.{Set, insert, remove, replace}
 use Rattle.chord.specs.declared.interval.IntervalList.{IntervalList}
+use Rattle.chord.specs.declared.interval.IntervalSet.{IntervalSet}
 
 -- the members after the code's operations
 module _ (n i : ℕ) (h : i < 23) (k : ℕ) where
-  pub insert-at : (ltb k 23 && bit (bitOr n ((1 * 2 ^ i) % 2 ^ 32)) k) ≡ (eqb i k || ltb k 23 && bit n k)
-  insert-at = ap (λ (x : ℕ). ltb k 23 && bit (bitOr n x) k) (power i (omega arith)) ∙ ap (λ (b : Bool). ltb k 23 && b) (bit-or n (2 ^ i) k ∙ ap (λ (b : Bool). bit n k || b) (bit-power i k)) ∙ go (ltb k 23) (eqb i k) refl refl (bit n k)
+  pub insert-at : (ltb k 32 && bit (bitOr n ((1 * 2 ^ i) % 2 ^ 32)) k) ≡ (eqb i k || ltb k 32 && bit n k)
+  insert-at = ap (λ (x : ℕ). ltb k 32 && bit (bitOr n x) k) (power i (omega arith)) ∙ ap (λ (b : Bool). ltb k 32 && b) (bit-or n (2 ^ i) k ∙ ap (λ (b : Bool). bit n k || b) (bit-power i k)) ∙ go (ltb k 32) (eqb i k) refl refl (bit n k)
     where
-      go : (t e : Bool) → ltb k 23 ≡ t → eqb i k ≡ e → (b : Bool) → (t && (b || e)) ≡ (e || t && b)
+      go : (t e : Bool) → ltb k 32 ≡ t → eqb i k ≡ e → (b : Bool) → (t && (b || e)) ≡ (e || t && b)
       go true true p q true = refl
       go true true p q false = refl
       go true false p q true = refl
       go true false p q false = refl
       go false true p q b =
-          let g : 23 ≤ k = ltb-false k 23 p in
+          let g : 32 ≤ k = ltb-false k 32 p in
           let f : i ≡ k = eqb-true i k q in
           absurd (omega arith)
       go false false p q b = refl
 
-  pub remove-at : (ltb k 23 && bit (bitXor n (bitAnd n ((1 * 2 ^ i) % 2 ^ 32))) k) ≡ (not (eqb i k) && (ltb k 23 && bit n k))
-  remove-at = ap (λ (x : ℕ). ltb k 23 && bit (bitXor n (bitAnd n x)) k) (power i (omega arith)) ∙ ap (λ (b : Bool). ltb k 23 && b) (bit-without n (2 ^ i) k ∙ ap (λ (b : Bool). not b && bit n k) (bit-power i k)) ∙ go (ltb k 23) (eqb i k) (bit n k)
+  pub remove-at : (ltb k 32 && bit (bitXor n (bitAnd n ((1 * 2 ^ i) % 2 ^ 32))) k) ≡ (not (eqb i k) && (ltb k 32 && bit n k))
+  remove-at = ap (λ (x : ℕ). ltb k 32 && bit (bitXor n (bitAnd n x)) k) (power i (omega arith)) ∙ ap (λ (b : Bool). ltb k 32 && b) (bit-without n (2 ^ i) k ∙ ap (λ (b : Bool). not b && bit n k) (bit-power i k)) ∙ go (ltb k 32) (eqb i k) (bit n k)
     where
       go : (t e b : Bool) → (t && (not e && b)) ≡ (not e && (t && b))
       go true e b = refl
@@ -41,25 +42,22 @@ module _ (n i : ℕ) (h : i < 23) (k : ℕ) where
       go false false b = refl
 
 -- the number 0 has no members
-pub none-at : (k : ℕ) → (ltb k 23 && bit 0 k) ≡ false
+pub none-at : (k : ℕ) → (ltb k 32 && bit 0 k) ≡ false
 unfolding bit
-none-at k = ap (λ (x : ℕ). ltb k 23 && eqb (x % 2) 1) (zero-div (2 ^ k)) ∙ go (ltb k 23)
+none-at k = ap (λ (x : ℕ). ltb k 32 && eqb (x % 2) 1) (zero-div (2 ^ k)) ∙ go (ltb k 32)
   where
     go : (t : Bool) → (t && false) ≡ false
     go true = refl
     go false = refl
 
--- the same members are the same 23 low digits
-module _ (a b : ℕ) where
-  pub alike : a % 2 ^ 23 ≡ b % 2 ^ 23 → (k : ℕ) → (ltb k 23 && bit a k) ≡ (ltb k 23 && bit b k)
-  alike e k = go (ltb k 23) refl
-    where
-      go : (t : Bool) → ltb k 23 ≡ t → (t && bit a k) ≡ (t && bit b k)
-      go true p = bits-same a b 23 e k (ltb-true k 23 p)
-      go false p = refl
+-- numbers of 32 digits that are the same digit by digit are equal
+pub same-number : (a b : ℕ) → a < 2 ^ 32 → b < 2 ^ 32 → ((k : ℕ) → k < 32 → bit a k ≡ bit b k) → a ≡ b
+same-number a b p q f = sym (mod-eq-of-lt p) ∙ same-bits a b 32 f ∙ mod-eq-of-lt q
 
-  pub alike-back : ((k : ℕ) → (ltb k 23 && bit a k) ≡ (ltb k 23 && bit b k)) → a % 2 ^ 23 ≡ b % 2 ^ 23
-  alike-back f = same-bits a b 23 (λ k h. sym (ap (λ (t : Bool). t && bit a k) (lt-ltb k 23 h)) ∙ f k ∙ ap (λ (t : Bool). t && bit b k) (lt-ltb k 23 h))
+-- a member below 32 is a digit
+pub member-at : (s : IntervalSet) (k : ℕ) → k < 32 → members s k ≡ bit (s .bits) k
+unfolding members
+member-at s k h = ap (λ (t : Bool). t && bit (s .bits) k) (lt-ltb k 32 h)
 
 -- the length that owning an array field tells, said of the field
 pub sized {ℓ} : {A : Type ℓ} (l : List A) (n : ℕ) → length (map (λ (v : A). v) l) ≡ n → length l ≡ n

@@ -1,9 +1,9 @@
 -- What a chord record stands for: its four.
-use mathlib.Core.Bool.{Bool, _&&_}
-use mathlib.Core.List.{List, []}
-use Prim.Native.Nat.{ℕ, _/_, _%_, _^_}
+use mathlib.Core.Bool.{Bool, true, not, cond, _&&_}
+use mathlib.Core.List.{List, [], _++_}
+use Prim.Native.Nat.{ℕ, zero, suc, _+_, _/_, _%_, _^_}
 use lib.Dec.{eqb, ltb}
-use lib.ListN.{take}
+use lib.ListN.{length, replicate, take}
 use Rattle.chord.specs.Interval.{Set, empty}
 use Rattle.chord.specs.declared.Chord.{Chord}
 use Rattle.chord.specs.declared.interval.IntervalList.{IntervalList}
@@ -15,9 +15,18 @@ use Rattle.chord.specs.declared.note.OptionalNote.{OptionalNote}
 unfoldable pub bit : ℕ → ℕ → Bool
 bit n k = eqb (n / 2 ^ k % 2) 1
 
--- the members of the code's set: those of the 23 whose digit is a 1
+-- the members of the code's set: those of its 32 digits that are a 1
 unfoldable pub members : IntervalSet → Set
-members s k = ltb k 23 && bit (s .bits) k
+members s k = ltb k 32 && bit (s .bits) k
+
+-- is none of the n numbers from k on a member?
+abbrev pub noneFrom : ℕ → ℕ → Set → Bool
+noneFrom k zero s = true
+noneFrom k (suc n) s = not (s k) && noneFrom (suc k) n s
+
+-- "This also covers members outside the table": a record's set has 32 digits, and none of 23 to 31 is a member
+unfoldable pub within : Set → Bool
+within s = noneFrom 23 9 s
 
 -- the numbers of the code's list
 unfoldable pub listed : IntervalList → List ℕ
@@ -37,3 +46,18 @@ fourOf c = record { root = c .root; bass = c .bass; normalized = members (c .nor
 -- no root, no bass and no intervals
 abbrev pub noChord : Four
 noChord = record { root = None; bass = None; normalized = empty; display = [] }
+
+-- the number whose n low digits are the members below n
+unfoldable pub digits : ℕ → Set → ℕ
+digits zero s = 0
+digits (suc n) s = cond (s n) (2 ^ n) 0 + digits n s
+
+-- the code's set of a set; its list of a list, with zeros behind the numbers; its record of the four
+unfoldable pub setOf : Set → IntervalSet
+setOf s = record { bits = digits 32 s }
+
+unfoldable pub listOf : List ℕ → IntervalList
+listOf d = record { numbers = take 23 (d ++ replicate 23 0); len = length d }
+
+abbrev pub recordOf : Four → Chord
+recordOf f = record { root = f .root; bass = f .bass; normalized = setOf (f .normalized); display = listOf (f .display) }

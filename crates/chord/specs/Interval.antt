@@ -1,9 +1,11 @@
 -- The intervals by number, their semitones, and sets of intervals as mathematics has them.
 use mathlib.Core.Bool.{Bool, false, not, _&&_, _||_}
 use mathlib.Core.List.{List, [], _∷_}
-use Prim.Native.Nat.{ℕ}
+use Prim.Native.Nat.{ℕ, _+_, _%_}
 use lib.Dec.{eqb}
 use lib.ListN.{getD}
+use Rattle.chord.specs.Note.{pitchClass}
+use Rattle.chord.specs.declared.note.Note.{Note}
 
 -- "Intervals are numbered 0 to 22 in the order of `Interval`."
 abbrev pub unison : ℕ
@@ -81,6 +83,10 @@ table = 0 ∷ 1 ∷ 2 ∷ 3 ∷ 4 ∷ 5 ∷ 6 ∷ 6 ∷ 7 ∷ 8 ∷ 8 ∷ 9 ∷ 
 
 abbrev pub semitones : ℕ → ℕ
 semitones i = getD table i 0
+
+-- the pitch class of the interval i above a root, 0 to 11
+abbrev pub memberClass : Note → ℕ → ℕ
+memberClass root i = (pitchClass root + semitones i) % 12
 
 -- A set is which numbers are its members. "Insert, remove, contains and subset are as in mathematics": contains is the set itself.
 abbrev pub Set : Type 0

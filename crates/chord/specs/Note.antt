@@ -43,3 +43,23 @@ noteNumber n = 3 * letterNumber (n .literal) + modifierNumber (n .modifier)
 
 abbrev pub noteOf : ℕ → Note
 noteOf n = record { literal = letterOf (n / 3); modifier = modifierOf (n % 3) }
+
+-- the semitones from C up to a letter
+abbrev pub letterClass : NoteLiteral → ℕ
+letterClass C = 0
+letterClass D = 2
+letterClass E = 4
+letterClass F = 5
+letterClass G = 7
+letterClass A = 9
+letterClass B = 11
+
+-- what a modifier adds, going round the twelve: eleven up is one down
+abbrev pub modifierClass : RootModifier → ℕ
+modifierClass Natural = 0
+modifierClass Sharp = 1
+modifierClass Flat = 11
+
+-- the pitch class of a note, 0 to 11
+abbrev pub pitchClass : Note → ℕ
+pitchClass n = (letterClass (n .literal) + modifierClass (n .modifier)) % 12

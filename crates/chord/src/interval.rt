@@ -6,7 +6,7 @@ ghost use mathlib.Core.List.{[]};
 ghost use Prim.Native.Nat.{_<_, _≤_};
 ghost use lib.ListN.{length};
 ghost use Rattle.chord.specs.Interval.{semitones, empty, insert, remove, replace, removeThenAdd};
-ghost use Rattle.chord.specs.Chord.{members, listed};
+ghost use Rattle.chord.specs.Chord.{members, within, listed, setOf, listOf};
 
 pub const UNISON: u8 = 0;
 
@@ -90,7 +90,7 @@ pub fn st(interval: u8) -> u8
     SEMITONES[i]
 }
 
-// Which of the 23 intervals are members: the binary digits of a number, the lowest first. The digits from 23 on say nothing.
+// Which of the 23 intervals are members: the binary digits of a number, the lowest first. A digit from 23 on is a member outside the table.
 pub struct IntervalSet {
     pub bits: u32,
 }
@@ -98,7 +98,7 @@ pub struct IntervalSet {
 impl IntervalSet {
     // The set without members.
     pub fn new() -> IntervalSet
-        ensures { λ r. ⌜ members r ≡ empty ⌝ }
+        ensures { λ r. ⌜ (r ≡ setOf empty) × (members r ≡ empty) ⌝ }
     {
         IntervalSet { bits: 0 }
     }
@@ -153,7 +153,14 @@ impl IntervalSet {
     pub(crate) fn same(self, other: IntervalSet) -> bool
         ensures { λ r. ⌜ ((r ≡ true) ↔ (members self ≡ members other)) ⌝ }
     {
-        self.bits % 0x80_0000 == other.bits % 0x80_0000
+        self.bits == other.bits
+    }
+
+    // Are all members in the table of 23?
+    pub fn is_within(self) -> bool
+        ensures { λ r. ⌜ r ≡ within (members self) ⌝ }
+    {
+        self.bits < 0x80_0000
     }
 }
 
@@ -166,7 +173,7 @@ pub struct IntervalList {
 impl IntervalList {
     // The list without numbers.
     pub fn new() -> IntervalList
-        ensures { λ r. ⌜ listed r ≡ [] ⌝ }
+        ensures { λ r. ⌜ (r ≡ listOf []) × (listed r ≡ []) ⌝ }
     {
         IntervalList {
             numbers: [0; 23],

@@ -2,7 +2,7 @@
 ghost use mathlib.Core.Logic.{_↔_};
 ghost use mathlib.Core.Path.{_≡_};
 ghost use mathlib.Core.Bool.{true};
-ghost use Rattle.chord.specs.Chord.{fourOf, noChord};
+ghost use Rattle.chord.specs.Chord.{fourOf, noChord, recordOf};
 
 pub mod interval;
 pub mod note;
@@ -22,7 +22,7 @@ pub struct Chord {
 impl Chord {
     // The record without root, bass and intervals.
     pub fn new() -> Chord
-        ensures { λ r. ⌜ fourOf r ≡ noChord ⌝ }
+        ensures { λ r. ⌜ (r ≡ recordOf noChord) × (fourOf r ≡ noChord) ⌝ }
     {
         Chord {
             root: OptionalNote::None,

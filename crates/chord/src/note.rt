@@ -3,7 +3,9 @@ ghost use mathlib.Core.Logic.{_↔_};
 ghost use mathlib.Core.Path.{_≡_};
 ghost use Prim.Native.Nat.{_<_};
 ghost use mathlib.Core.Bool.{true};
-ghost use Rattle.chord.specs.Note.{letterNumber, letterOf, alterationOf, modifierNumber, modifierOf, noteNumber, noteOf};
+ghost use Rattle.chord.specs.Interval.{memberClass};
+ghost use Rattle.chord.specs.Note.{letterNumber, letterOf, letterClass, alterationOf, modifierNumber, modifierOf, modifierClass, noteNumber, noteOf, pitchClass};
+use crate::interval::st;
 
 pub enum NoteLiteral {
     C,
@@ -63,6 +65,21 @@ impl NoteLiteral {
             _ => NoteLiteral::C,
         }
     }
+
+    // The semitones from C up to the letter.
+    fn class(self) -> u8
+        ensures { λ r. ⌜ (r ≡ letterClass self) × (r < 12) ⌝ }
+    {
+        match self {
+            NoteLiteral::C => 0,
+            NoteLiteral::D => 2,
+            NoteLiteral::E => 4,
+            NoteLiteral::F => 5,
+            NoteLiteral::G => 7,
+            NoteLiteral::A => 9,
+            NoteLiteral::B => 11,
+        }
+    }
 }
 
 impl RootModifier {
@@ -97,6 +114,17 @@ impl RootModifier {
             _ => RootModifier::Natural,
         }
     }
+
+    // What the modifier adds to a pitch class, going round: eleven up is one down.
+    fn class(self) -> u8
+        ensures { λ r. ⌜ (r ≡ modifierClass self) × (r < 12) ⌝ }
+    {
+        match self {
+            RootModifier::Natural => 0,
+            RootModifier::Sharp => 1,
+            RootModifier::Flat => 11,
+        }
+    }
 }
 
 impl Note {
@@ -116,6 +144,23 @@ impl Note {
             literal: NoteLiteral::from_number(number / 3),
             modifier: RootModifier::from_number(number % 3),
         }
+    }
+
+    // Which of the twelve pitch classes the note has: C 0 to B 11.
+    pub fn pitch_class(self) -> u8
+        ensures { λ r. ⌜ (r ≡ pitchClass self) × (r < 12) ⌝ }
+    {
+        let l = self.literal;
+        let m = self.modifier;
+        (l.class() + m.class()) % 12
+    }
+
+    // The pitch class of the interval above the note as a root.
+    pub fn member_class(self, interval: u8) -> u8
+        requires { ⌜ interval < 23 ⌝ }
+        ensures { λ r. ⌜ (r ≡ memberClass self interval) × (r < 12) ⌝ }
+    {
+        (self.pitch_class() + st(interval)) % 12
     }
 
     pub(crate) fn same(self, other: Note) -> bool

@@ -11,7 +11,10 @@ new-requires-2 : tie.Need-new-requires-2
 new-requires-2 c κs = search needs
 
 returns : tie.Need-returns
-returns c = rw (c .new2 .ensures, c .before .new .ensures)
+returns c =
+    let s = c .before .new .ensures in
+    let l = c .new2 .ensures in
+    (rw (s .0, l .0), rw (s .1, l .1))
 
 pub new-spec : {M : Type 1} → statement M
 new-spec = tie.close (tie.spec new-requires new-requires-2 returns)

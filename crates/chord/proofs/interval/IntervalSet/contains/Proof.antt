@@ -2,6 +2,7 @@
 -- Assumes nothing.
 use mathlib.Core.Bool.{Bool, _&&_}
 use mathlib.Core.Path.{sym, ap}
+use native.Mathlib.Omega.{arith}
 use borrow.Author.Needs.{needs}
 use borrow.Author.Tests.{lt-ltb}
 use Rattle.chord.specs.Chord.{bit, members}
@@ -15,7 +16,7 @@ returns : tie.Need-returns
 unfolding members bit
 returns c =
     let a = c .before .args in
-    sym (ap (λ (t : Bool). t && bit (a .self .bits) (a .interval)) (lt-ltb (a .interval) 23 (c .before .pre)))
+    sym (ap (λ (t : Bool). t && bit (a .self .bits) (a .interval)) (lt-ltb (a .interval) 32 (omega (arith, c .before .pre))))
 
 pub contains-spec : {M : Type 1} → statement M
 contains-spec = tie.close (tie.spec shr-result returns)
