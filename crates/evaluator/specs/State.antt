@@ -5,7 +5,7 @@ use mathlib.Core.Path.{_≡_}
 use Prim.Native.Nat.{ℕ, _+_, _-_, _<_}
 use lib.Dec.{eqb, leb}
 use lib.ListN.{length, getD}
-use Rattle.chord.specs.Chord.{listed, members}
+use Rattle.chord.specs.Chord.{listOf, listed, members, setOf}
 use Rattle.expression.specs.Expression.{expOf}
 use Rattle.expression.specs.declared.expression.Exp.{Exp}
 use Rattle.step.specs.Bounds.{Sound}
@@ -41,6 +41,8 @@ pub record Answered (l : List Exp) (r : Evaluated) : Type 0 where
   pub bass : r .bass ≡ slashBass l
   pub set : members (r .set) ≡ evalSet l
   pub display : listed (r .display) ≡ displayOf (firstSus l) (evalSet l)
+  pub whole : r .set ≡ setOf (evalSet l)
+  pub list : r .display ≡ listOf (displayOf (firstSus l) (evalSet l))
 
 -- the j-th of the numbers, where `high` has been moved behind `low`
 abbrev pub movedAt : ℕ → ℕ → ℕ → ℕ

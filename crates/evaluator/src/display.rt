@@ -2,7 +2,7 @@
 ghost use mathlib.Core.Path.{_≡_};
 ghost use Prim.Native.Nat.{_+_, _<_};
 ghost use lib.ListN.{getD};
-ghost use Rattle.chord.specs.Chord.{members, listed};
+ghost use Rattle.chord.specs.Chord.{members, listed, listOf};
 ghost use Rattle.evaluator.specs.Display.{shown, order, displayOf, susOf};
 ghost use Rattle.evaluator.specs.State.{movedAt};
 use chord::interval::AUGMENTED_FOURTH;
@@ -85,7 +85,7 @@ fn order_at(k: u8, j: u8) -> u8
 
 // The members in the order in which they are shown, each as it is shown.
 fn in_order(k: u8, s: IntervalSet) -> IntervalList
-    ensures { λ r. ⌜ listed r ≡ displayOf k (members s) ⌝ }
+    ensures { λ r. ⌜ (r ≡ listOf (displayOf k (members s))) × (listed r ≡ displayOf k (members s)) ⌝ }
 {
     let mut l = IntervalList {
         numbers: [0; 23],
@@ -108,7 +108,7 @@ fn in_order(k: u8, s: IntervalSet) -> IntervalList
 // The display list of a set, where the first sus is of the interval k; k is any other number where there is none. In each case k is known,
 // so that the loop has no test of it.
 pub fn display(k: u8, s: IntervalSet) -> IntervalList
-    ensures { λ r. ⌜ listed r ≡ displayOf k (members s) ⌝ }
+    ensures { λ r. ⌜ (r ≡ listOf (displayOf k (members s))) × (listed r ≡ displayOf k (members s)) ⌝ }
 {
     match k {
         1 => in_order(1, s),

@@ -1,6 +1,11 @@
 -- What the set and the list ensure, put into the record.
 -- Assumes nothing.
+use mathlib.Core.Path.{_≡_, sym, ap, _∙_}
+use native.Mathlib.Omega.{arith}
 use borrow.Author.Needs.{needs}
+use Rattle.chord.specs.Chord.{setOf}
+use Rattle.chord.specs.Interval.{empty}
+use Rattle.chord.proofs.Record.{set-whole}
 use Rattle.chord.proofs.Chord.new.Statement.{statement}
 use Rattle.chord.proofs.Chord.new.Tie as tie
 
@@ -12,9 +17,10 @@ new-requires-2 c κs = search needs
 
 returns : tie.Need-returns
 returns c =
-    let s = c .before .new .ensures in
+    let n = c .before .new in
+    let s : n .result ≡ setOf empty = sym (set-whole (n .result) (omega (arith, n .ok))) ∙ ap setOf (n .ensures) in
     let l = c .new2 .ensures in
-    (rw (s .0, l .0), rw (s .1, l .1))
+    (rw (s, l .0), rw (n .ensures, l .1))
 
 pub new-spec : {M : Type 1} → statement M
 new-spec = tie.close (tie.spec new-requires new-requires-2 returns)

@@ -2,7 +2,7 @@
 use mathlib.Core.Path.{sym, ap, _∙_}
 use Prim.Native.Nat.{ℕ}
 use borrow.Author.Needs.{needs}
-use Rattle.chord.specs.Chord.{members}
+use Rattle.chord.specs.Chord.{listOf, members}
 use Rattle.evaluator.specs.Display.{displayOf}
 use Rattle.evaluator.proofs.Shown.{shown-plain}
 use Rattle.evaluator.proofs.display.display.Statement.{statement}
@@ -21,19 +21,26 @@ in-order-requires-4 : tie.Need-in-order-requires-4
 in-order-requires-4 c κs = search needs
 
 returns : tie.Need-returns
-returns c = c .in-order .ensures ∙ sym (ap (λ (k : ℕ). displayOf k (members (c .before .before .args .s))) (c .before .match .keys1))
+returns c =
+    let e = ap (λ (k : ℕ). displayOf k (members (c .before .before .args .s))) (sym (c .before .match .keys1)) in
+    (c .in-order .ensures .0 ∙ ap listOf e, c .in-order .ensures .1 ∙ e)
 
 returns-2 : tie.Need-returns-2
-returns-2 c = c .in-order2 .ensures ∙ sym (ap (λ (k : ℕ). displayOf k (members (c .before .before .args .s))) (c .before .match .keys2))
+returns-2 c =
+    let e = ap (λ (k : ℕ). displayOf k (members (c .before .before .args .s))) (sym (c .before .match .keys2)) in
+    (c .in-order2 .ensures .0 ∙ ap listOf e, c .in-order2 .ensures .1 ∙ e)
 
 returns-3 : tie.Need-returns-3
-returns-3 c = c .in-order3 .ensures ∙ sym (ap (λ (k : ℕ). displayOf k (members (c .before .before .args .s))) (c .before .match .keys3))
+returns-3 c =
+    let e = ap (λ (k : ℕ). displayOf k (members (c .before .before .args .s))) (sym (c .before .match .keys3)) in
+    (c .in-order3 .ensures .0 ∙ ap listOf e, c .in-order3 .ensures .1 ∙ e)
 
 returns-4 : tie.Need-returns-4
 returns-4 c =
     let n = c .before .match .rest in
     let a = c .before .before .args in
-    c .in-order4 .ensures ∙ sym (shown-plain (a .k) (members (a .s)) (n .0 .0 .1) (n .0 .1) (n .1))
+    let e = sym (shown-plain (a .k) (members (a .s)) (n .0 .0 .1) (n .0 .1) (n .1)) in
+    (c .in-order4 .ensures .0 ∙ ap listOf e, c .in-order4 .ensures .1 ∙ e)
 
 pub display-spec : {M : Type 1} → statement M
 display-spec =

@@ -1,13 +1,14 @@
--- The invariant: what is in the list and what the rest of the order gives are the display list. A turn leaves the list as it is, or is one
--- store behind its numbers, by whether the interval is a member.
-use Prim.Native.Nat.{_+_, _-_, _≤_, suc, ℕ}
-use Rattle.chord.specs.Chord.{listed, members}
-use Rattle.evaluator.proofs.Shown.{append-nil, display-turn, order-length}
+-- The invariant: what is in the list and what the rest of the order gives are the display list, and behind what is in it are zeros. A turn
+-- leaves the list as it is, or is one store behind its numbers, by whether the interval is a member.
+use Prim.Native.Nat.{_+_, _-_, _≤_, _<_, suc, ℕ}
+use Rattle.chord.specs.Chord.{listOf, listed, members}
+use Rattle.chord.proofs.Record.{list-whole}
+use Rattle.evaluator.proofs.Shown.{append-nil, display-turn, order-length, zeros-behind}
 use Rattle.evaluator.proofs.display.in_order.Statement.{statement}
 use Rattle.evaluator.specs.Display.{chosen, displayOf, order, shown}
 use borrow.Author.Needs.{needs}
 use borrow.Author.Tests.{not-true, not-false}
-use lib.ListN.{drop, drop-of-length-le, length, length-set, set, take}
+use lib.ListN.{drop, drop-of-length-le, length, length-set, replicate, set, take}
 use lib.Seq.{take-suc-set}
 use mathlib.Core.Bool.{cond}
 use mathlib.Core.List.{List, [], _∷_, _++_}
@@ -18,13 +19,14 @@ use Rattle.evaluator.proofs.display.in_order.Tie as tie
 abbrev Inv-loop : tie.InvT-loop
 Inv-loop k s l₀ j₀ l j =
     (j ≤ 23) × (l .len ≤ j) × (length (l .numbers) ≡ 23) × (listed l ++ chosen (members s) (shown k) (drop j (order k)) ≡ displayOf k (members s))
+    × (drop (l .len) (l .numbers) ≡ replicate (23 - l .len) 0)
 
 abbrev μ-loop : tie.MeasureT-loop
 μ-loop k s l₀ j₀ l j = 23 - j
 
 loop-holds : tie.Need-loop-holds Inv-loop μ-loop
 unfolding listed displayOf
-loop-holds c = (omega arith, omega arith, refl, refl)
+loop-holds c = (omega arith, omega arith, refl, refl, refl)
 
 order-at-requires : tie.Need-order-at-requires Inv-loop μ-loop
 order-at-requires c κs = search needs
@@ -48,7 +50,7 @@ loop-again c =
     let s = members (c .before .before .before .before .before .args .s) in
     let e : suc j ≡ j + 1 = omega arith in
     let p : l ≡ l ++ cond (s x) (shown k x ∷ []) [] = rw (← c .before .contains .ensures, not-true (c .before .contains .result) (c .if1 .taken)) (sym (append-nil l)) in
-    (omega arith, omega (arith, i .1), i .2, rw (← e) (sym (display-turn l l s k x j (c .before .before .before .loop-test .taken) (c .before .before .order-at .ensures .0) p) ∙ i .3))
+    (omega arith, omega (arith, i .1), i .2, rw (← e) (sym (display-turn l l s k x j (c .before .before .before .loop-test .taken) (c .before .before .order-at .ensures .0) p) ∙ i .3), i .4)
 
 shown-requires : tie.Need-shown-requires Inv-loop μ-loop
 shown-requires c κs = search needs
@@ -78,14 +80,19 @@ loop-again-2 c =
     let f : n + 1 ≡ suc n = omega arith in
     let m : take (n + 1) (set v n y) ≡ take n v ++ (y ∷ []) = rw f (take-suc-set v n y (omega (arith, i .1, i .2, c .before .before .before .before .loop-test .taken))) in
     let p : take (n + 1) (set v n y) ≡ take n v ++ cond (s x) (shown k x ∷ []) [] = rw (← c .before .before .contains .ensures, not-false (c .before .before .contains .result) (c .before .if1 .left), ← c .shown .ensures) m in
-    (omega arith, omega (arith, i .1), simp length-set (i .2), rw (← e) (sym (display-turn (take n v) (take (n + 1) (set v n y)) s k x j (c .before .before .before .before .loop-test .taken) (c .before .before .before .order-at .ensures .0) p) ∙ i .3))
+    let h : n < 23 = omega (arith, i .1, c .before .before .before .before .loop-test .taken) in
+    let z : drop (n + 1) (set v n y) ≡ replicate (23 - (n + 1)) 0 = zeros-behind v n y h (i .4) in
+    (omega arith, omega (arith, i .1), simp length-set (i .2), rw (← e) (sym (display-turn (take n v) (take (n + 1) (set v n y)) s k x j (c .before .before .before .before .loop-test .taken) (c .before .before .before .order-at .ensures .0) p) ∙ i .3), z)
 
 returns : tie.Need-returns Inv-loop μ-loop
 returns c =
     let i = c .before .loop .inv in
     let l = c .before .loop .l in
     let k = c .before .before .args .k in
-    sym (append-nil (listed l)) ∙ ap (λ (r : List ℕ). listed l ++ chosen (members (c .before .before .args .s)) (shown k) r) (sym (drop-of-length-le (order k) {i = c .before .loop .j} (omega (arith, c .loop-test .left, order-length k)))) ∙ i .3
+    let s = members (c .before .before .args .s) in
+    let e = drop-of-length-le (order k) {i = c .before .loop .j} (omega (arith, c .loop-test .left, order-length k)) in
+    let d : listed l ≡ displayOf k s = sym (append-nil (listed l)) ∙ ap (λ (r : List ℕ). listed l ++ chosen s (shown k) r) (sym e) ∙ i .3 in
+    (sym (list-whole l (omega (arith, i .0, i .1)) (i .2) (i .4)) ∙ ap listOf d, d)
 
 pub in-order-spec : {M : Type 1} → statement M
 in-order-spec =

@@ -1,14 +1,13 @@
 -- The number 0 has no digit that is a 1.
 -- Assumes nothing.
-use mathlib.Core.Path.{refl}
 use Rattle.chord.proofs.Store.{none-at}
-use Rattle.chord.specs.Chord.{digits, members, setOf}
+use Rattle.chord.specs.Chord.{members}
 use Rattle.chord.proofs.interval.IntervalSet.new.Statement.{statement}
 use Rattle.chord.proofs.interval.IntervalSet.new.Tie as tie
 
 returns : tie.Need-returns
-unfolding members setOf digits
-returns c = (refl, λ x k. none-at k x)
+unfolding members
+returns c = λ x k. none-at k x
 
 pub new-spec : {M : Type 1} → statement M
 new-spec = tie.close (tie.spec returns)
