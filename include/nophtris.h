@@ -1,15 +1,21 @@
 /* Nophtris: reads a chord symbol, and writes a chord's house spelling.
  *
- * Both functions are proved to end, to read and write nothing but the memory that they are lent, and to give the answer that document 01 has for
- * any bytes. They use no heap, keep no state between calls, and may be called from several threads at once on memory that is not shared.
+ * Both functions are proved: they end, read and write nothing but the memory that they are lent, and give the answer that document 01 has for any bytes.
+ * The proof is of the source; it does not speak of the compiler, of the time a call takes or of its stack.
  *
- * What the caller owes is what C asks of any pointer: `text` points to text_len readable bytes, `errors` to errors_len writable numbers, `buffer` to
- * buffer_len writable bytes, `count` and `length` to one number each, `chord` to one struct; what a call writes overlaps nothing else that it is
- * lent. A pointer with length 0 may be anything. `errors`, `count` and `length` are aligned as uint16_t is.
+ * What the caller owes is what C asks of any pointer.
+ *   - `text` points to text_len readable bytes, `errors` to errors_len writable numbers, `buffer` to buffer_len writable bytes. Where the length is 0 the
+ *     pointer is not followed.
+ *   - `count`, `chord` and `length` point to one object each and are never NULL, even where the answer leaves them as they were.
+ *   - `errors`, `count` and `length` are aligned as uint16_t is; text, buffer and struct may stand anywhere.
+ *   - What a call writes overlaps nothing else that it is lent.
  *
- * Stack: less than 4 KiB, but some 480 bytes more for each bracket of a text that is opened inside another: 123 KiB for 255 of them (bench/stack measures it).
+ * No heap, no state between calls, no global memory: calls from several threads need no lock, on memory that they do not share.
  *
- * A struct is 51 bytes without padding, and the library sees it as 51 bytes: any bytes in it are a record. Link with libnophtris.a.
+ * Stack (measured, x86-64): less than 4 KiB, and some 480 bytes more for each bracket of a text that is opened inside another: 123 KiB for 255 of
+ * them, the most that 256 bytes can open. `bench/stack` measures it.
+ *
+ * Link with libnophtris.a on x86-64 Linux (System V calling convention). Of the C library it needs memcpy and memset only.
  */
 #ifndef NOPHTRIS_H
 #define NOPHTRIS_H
@@ -21,34 +27,84 @@
 extern "C" {
 #endif
 
-#define NOPHTRIS_ERRORS 1028 /* the numbers that an error list has to hold */
-#define NOPHTRIS_BUFFER 112  /* the bytes that a buffer has to hold */
-#define NOPHTRIS_NONE 255    /* no root, no bass */
+/* The first number grows when a function or the struct changes its form, the second with any other change of an answer. */
+#define NOPHTRIS_VERSION_MAJOR 1
+#define NOPHTRIS_VERSION_MINOR 0
 
+/* The answers. */
+#define NOPHTRIS_ACCEPTED 0     /* read: the struct is filled; written: the spelling stands in the buffer */
+#define NOPHTRIS_SHORT_LIST 1   /* the error list holds fewer than 1,028 numbers */
+#define NOPHTRIS_LONG_TEXT 2    /* the text has more than 256 bytes */
+#define NOPHTRIS_NOT_UTF8 3     /* the text is not UTF-8 by RFC 3629 */
+#define NOPHTRIS_PARSE 4        /* parsing found errors */
+#define NOPHTRIS_VALIDATION 5   /* validation found errors */
+#define NOPHTRIS_SHORT_BUFFER 6 /* the buffer holds fewer than 112 bytes */
+#define NOPHTRIS_NO_TEXT 7      /* no accepted text has this root, bass, normalized set and display list */
+
+#define NOPHTRIS_ERRORS 1028    /* the numbers that an error list has to hold: four for each of at most 257 errors */
+#define NOPHTRIS_BUFFER 112     /* the bytes that a buffer has to hold; no spelling is longer */
+#define NOPHTRIS_NONE 255       /* no root, no bass */
+#define NOPHTRIS_INTERVALS 23
+
+/* An error is four numbers: its kind, its values, and zeros. A position is a byte offset in the text, from 0. Of a sign (# / ( ) and the like) it is that
+ * of the byte after the sign, so that it may equal the text's length; of a word or a number it is that of its first byte. */
+#define NOPHTRIS_ILLEGAL_TOKEN 1                      /* position */
+#define NOPHTRIS_UNEXPECTED_NOTE 2                    /* position */
+#define NOPHTRIS_DUPLICATE_MODIFIER 3                 /* what is repeated: power 0, alt 1, bass 2, minor 3, dim7 4, dim 5, half dim 6, sus 7, maj 8, Maj7 9, aug 12 */
+#define NOPHTRIS_INCONSISTENT_EXTENSION 4             /* interval */
+#define NOPHTRIS_DUPLICATE_EXTENSION 5                /* position */
+#define NOPHTRIS_INVALID_EXTENSION 6                  /* position; of a sign before a wrong number one more than the sign's own */
+#define NOPHTRIS_WRONG_EXPRESSION_TARGET 7            /* position */
+#define NOPHTRIS_UNEXPECTED_MODIFIER 8                /* position */
+#define NOPHTRIS_MISSING_ROOT_NOTE 9                  /* nothing */
+#define NOPHTRIS_THREE_CONSECUTIVE_SEMITONES 10       /* three intervals */
+#define NOPHTRIS_MISSING_ADD_TARGET 11                /* position and length of the word */
+#define NOPHTRIS_ILLEGAL_OR_MISSING_OMIT_TARGET 12    /* position and length of the word */
+#define NOPHTRIS_ILLEGAL_ADD_TARGET 13                /* never occurs */
+#define NOPHTRIS_ILLEGAL_SLASH_NOTATION 14            /* position of the slash */
+#define NOPHTRIS_UNEXPECTED_CLOSING_PARENTHESIS 15    /* position of the sign */
+#define NOPHTRIS_MISSING_CLOSING_PARENTHESIS 16       /* position of the opening sign */
+#define NOPHTRIS_NESTED_PARENTHESIS 17                /* position of the outer opening sign */
+#define NOPHTRIS_INVALID_POWER_EXPRESSION 18          /* never occurs */
+
+/* The intervals by number: 0 is 1, 1 b2, 2 2, 3 b3, 4 3, 5 4, 6 #4, 7 b5, 8 5, 9 #5, 10 b6, 11 6, 12 bb7, 13 7, 14 Maj7, 15 8, 16 b9, 17 9, 18 #9,
+ * 19 11, 20 #11, 21 b13, 22 13. */
+#define NOPHTRIS_INTERVAL_NAMES \
+  { "1", "b2", "2", "b3", "3", "4", "#4", "b5", "5", "#5", "b6", "6", "bb7", "7", "Maj7", "8", "b9", "9", "#9", "11", "#11", "b13", "13" }
+
+/* A chord record: 51 bytes without padding. Any bytes may be handed over: values outside their ranges get NOPHTRIS_NO_TEXT. */
 typedef struct {
   uint8_t root_letter;     /* C 0 .. B 6, 255 none */
-  int8_t root_alteration;  /* -1, 0, 1; not looked at where there is no root */
+  int8_t root_alteration;  /* flat -1, 0, sharp 1; 0 where there is no root */
   uint8_t bass_letter;     /* C 0 .. B 6, 255 none */
-  int8_t bass_alteration;  /* -1, 0, 1; not looked at where there is no bass */
+  int8_t bass_alteration;  /* flat -1, 0, sharp 1; 0 where there is no bass */
   uint8_t normalized[23];  /* by interval number: 1 member, 0 not */
   uint8_t display_count;   /* at most 23 */
-  uint8_t display[23];     /* interval numbers; those behind the count are not looked at */
+  uint8_t display[23];     /* interval numbers, in the order shown; those behind the count are not looked at when writing, and 0 after reading */
 } nophtris_chord;
 
-/* Reads a text. Returns
- *   0  accepted: the struct is filled (0 for an alteration of none, and 0 behind the display list's count);
- *   1  the error list holds fewer than 1,028 numbers;
- *   2  the text has more than 256 bytes;
- *   3  it is not UTF-8;
- *   4  parsing found errors; 5  validation found errors: `count` of them, four numbers for each from the beginning of the list on: its kind (1 to 18),
- *      its values, zeros.
+#if defined(__cplusplus) && __cplusplus >= 201103L
+static_assert(sizeof(nophtris_chord) == 51, "a chord record is 51 bytes without padding");
+#elif defined(__STDC_VERSION__) && __STDC_VERSION__ >= 201112L
+_Static_assert(sizeof(nophtris_chord) == 51, "a chord record is 51 bytes without padding");
+#else
+typedef char nophtris_chord_is_51_bytes[sizeof(nophtris_chord) == 51 ? 1 : -1];
+#endif
+
+/* Reads a text of any bytes and any length. The questions are asked in this order:
+ *   1  NOPHTRIS_SHORT_LIST   the error list holds fewer than 1,028 numbers;
+ *   2  NOPHTRIS_LONG_TEXT    the text has more than 256 bytes;
+ *   3  NOPHTRIS_NOT_UTF8     it is not UTF-8;
+ *   4  NOPHTRIS_PARSE        parsing found errors; 5  NOPHTRIS_VALIDATION  validation did: `count` of them, 1 to 257, four numbers for each from the
+ *                            beginning of the list on;
+ *   0  NOPHTRIS_ACCEPTED     none of these: the struct is filled.
  * All else is left as it was: the list with 0 to 3 and behind the errors, `count` with 0 to 3, the struct with 1 to 5. */
 uint8_t nophtris_read(const uint8_t *text, size_t text_len, uint16_t *errors, size_t errors_len, uint16_t *count, nophtris_chord *chord);
 
-/* Writes a chord's house spelling. Returns
- *   0  the first `length` bytes of the buffer are the spelling (at most 112, no terminating zero);
- *   6  the buffer holds fewer than 112 bytes;
- *   7  no accepted text has this root, bass, normalized set and display list; so it is where a value lies outside its range.
+/* Writes the house spelling of a record of any bytes. The questions are asked in this order:
+ *   6  NOPHTRIS_SHORT_BUFFER the buffer holds fewer than 112 bytes;
+ *   7  NOPHTRIS_NO_TEXT      a value lies outside its range, or no accepted text has this root, bass, normalized set and display list;
+ *   0  NOPHTRIS_ACCEPTED     neither: the first `length` bytes of the buffer are the spelling (1 to 112, no terminating zero).
  * All else is left as it was: the buffer behind the spelling, and with 6 and 7 the whole buffer and `length`. */
 uint8_t nophtris_write(const nophtris_chord *chord, uint8_t *buffer, size_t buffer_len, uint16_t *length);
 

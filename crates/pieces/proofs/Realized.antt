@@ -10,7 +10,7 @@ use native.Mathlib.Omega.{arith}
 use lib.Dec.{T, ltb}
 use lib.ListN.{length}
 use borrow.Author.Tests.{ltb-false, ltb-true}
-use Rattle.chord.specs.Chord.{Four}
+use Rattle.chord.specs.Chord.{Four, within}
 use Rattle.chord.specs.Interval.{Set, empty}
 use Rattle.chord.specs.declared.note.Note.{Note}
 use Rattle.chord.specs.declared.note.OptionalNote.the-variants.{None, Some}
@@ -28,12 +28,13 @@ use Rattle.house.proofs.Beyond.{beyond, spelled-allowed}
 use Rattle.house.proofs.Bools.{and-left, and-right, both-pass}
 use Rattle.house.proofs.Displayed.{display-by, kind-displayed}
 use Rattle.house.proofs.Invariants.{struct}
+use Rattle.house.proofs.Low.{Low, low-of, within-of}
 use Rattle.house.proofs.Round.{round-at}
 use Rattle.house.proofs.Struct.{Struct, apart, together}
 use Rattle.house.proofs.Tests.{same-lists, same-self}
 use Rattle.house.specs.House.{displayBy, isSome, kindIn, kindOf, spellExps}
 use Rattle.house.specs.declared.kind.Kind.{Kind}
-use Rattle.house.specs.Question.{Low, all, clauses, realizable, realizableBy, sameList}
+use Rattle.house.specs.Question.{all, clauses, realizable, realizableBy, sameList}
 use Rattle.parser.proofs.Laws.{expressions-sound, root-note}
 use Rattle.parser.specs.All.{All}
 use Rattle.parser.specs.Parser.{parseOf, rootOf}
@@ -207,32 +208,38 @@ accepted-realizable t f a =
 
 -- ---- the test
 
+-- no member from 32 on; so it is of every record, whose set has 32 digits, and then the test sees every member outside the table
+abbrev pub Narrow : Set → Type 0
+Narrow s = (j : ℕ) → 32 ≤ j → s j ≡ false
+
 passed : (b : Bool) → T b → b ≡ true
 passed true t = refl
 passed false t = absurd t
 
 -- what it says of a record with a root
-told : (r : Note) (f : Four) → f .root ≡ Some r → Low (f .normalized) → T (realizableBy (kindIn (f .normalized) (f .display)) (f .normalized) (f .display)) → Realizable f
+told : (r : Note) (f : Four) → f .root ≡ Some r → Narrow (f .normalized)
+    → T (within (f .normalized) && realizableBy (kindIn (f .normalized) (f .display)) (f .normalized) (f .display)) → Realizable f
 told r f e w t =
     let n = f .normalized in
     let d = f .display in
     let k = kindIn n d in
-    let u = and-right (all (clauses n k)) (setValid n && sameList d (displayBy k n)) t in
+    let v = and-right (within n) (realizableBy k n d) t in
+    let u = and-right (all (clauses n k)) (setValid n && sameList d (displayBy k n)) v in
     record {
       root = r;
       rooted = e;
-      clauses = apart n k (and-left (all (clauses n k)) (setValid n && sameList d (displayBy k n)) t);
+      clauses = apart n k (and-left (all (clauses n k)) (setValid n && sameList d (displayBy k n)) v);
       valid = set-passes n (and-left (setValid n) (sameList d (displayBy k n)) u);
-      within = w;
+      within = low-of n (passed (within n) (and-left (within n) (realizableBy k n d) t)) w;
       displayed = same-lists d (displayBy k n) (and-right (setValid n) (sameList d (displayBy k n)) u);
     }
 
-by-root : (r : OptionalNote) (f : Four) → f .root ≡ r → Low (f .normalized)
-    → T (isSome r && realizableBy (kindIn (f .normalized) (f .display)) (f .normalized) (f .display)) → Realizable f
+by-root : (r : OptionalNote) (f : Four) → f .root ≡ r → Narrow (f .normalized)
+    → T (isSome r && (within (f .normalized) && realizableBy (kindIn (f .normalized) (f .display)) (f .normalized) (f .display))) → Realizable f
 by-root (Some r) f e w t = told r f e w t
 by-root None f e w t = absurd t
 
-pub test-says : (f : Four) → Low (f .normalized) → realizable f ≡ true → Realizable f
+pub test-says : (f : Four) → Narrow (f .normalized) → realizable f ≡ true → Realizable f
 test-says f w e = by-root (f .root) f refl w (subst T (sym e) tt)
 
 rooted-passes : (r : Note) (x : OptionalNote) → x ≡ Some r → T (isSome x)
@@ -244,11 +251,13 @@ says-test f h =
     let d = f .display in
     let k = kindIn n d in
     let s : T (sameList d (displayBy k n)) = subst (λ (x : List ℕ). T (sameList d x)) (h .displayed) (same-self d) in
+    let w : T (within n) = subst T (sym (within-of n (h .within))) tt in
     passed (realizable f)
-    (both-pass (isSome (f .root)) (realizableBy k n d) (rooted-passes (h .root) (f .root) (h .rooted))
+    (both-pass (isSome (f .root)) (within n && realizableBy k n d) (rooted-passes (h .root) (f .root) (h .rooted))
+    (both-pass (within n) (realizableBy k n d) w
     (both-pass (all (clauses n k)) (setValid n && sameList d (displayBy k n)) (together n k (h .clauses))
-    (both-pass (setValid n) (sameList d (displayBy k n)) (passes-set n (h .valid)) s)))
+    (both-pass (setValid n) (sameList d (displayBy k n)) (passes-set n (h .valid)) s))))
 
 -- "Has some accepted text exactly these four?": exactly when the test passes
-pub some-text : (f : Four) → Low (f .normalized) → (realizable f ≡ true) ↔ ((t : List ℕ) × IsAccepted t f)
+pub some-text : (f : Four) → Narrow (f .normalized) → (realizable f ≡ true) ↔ ((t : List ℕ) × IsAccepted t f)
 some-text f w = (λ e. (house f, spelling-realizes f (test-says f w e)), λ a. says-test f (accepted-realizable (a .0) f (a .1)))

@@ -8,7 +8,7 @@ use native.Mathlib.Nat.{not-suc-le-zero, le-of-suc-le-suc}
 use native.Mathlib.Omega.{arith}
 use lib.ListN.{length, take, drop, getD}
 use lib.Seq.{length-take-le}
-use Rattle.chord.specs.Chord.{fourOf, noChord}
+use Rattle.chord.specs.Chord.{fourOf, noChord, recordOf}
 use Rattle.chord.specs.declared.note.OptionalNote.{OptionalNote}
 use Rattle.expression.specs.Expression.{expOf}
 use Rattle.expression.specs.declared.expression.Exp.{Exp}
@@ -33,14 +33,15 @@ counted n more es h e = sym (length-take-le (4 * n) es h) ∙ ap length e
 -- errors were found
 pub gave-errors : (more : List ℕ) (k : ℕ) (o : Outcome) (n : ℕ) {r : Reading} {es es′ : List ℕ} → 0 < n → 4 * n ≡ length more
     → take (4 * n) es′ ≡ more → drop (4 * n) es′ ≡ drop (4 * n) es → numberOf (r .answer) ≡ k → countOf (r .answer) ≡ n
-    → fourOf (r .chord) ≡ noChord → Gave (judge more k o) r es es′
-gave-errors [] k o n {r} {es} {es′} h m t d a b c = absurd (omega (arith, h, m))
-gave-errors (x ∷ xs) k o n {r} {es} {es′} h m t d a b c =
+    → fourOf (r .chord) ≡ noChord → r .chord ≡ recordOf noChord → Gave (judge more k o) r es es′
+gave-errors [] k o n {r} {es} {es′} h m t d a b c w = absurd (omega (arith, h, m))
+gave-errors (x ∷ xs) k o n {r} {es} {es′} h m t d a b c w =
     let q : n ≡ length (x ∷ xs) / 4 = omega (arith, m) in
     record {
       number = a;
       count = b ∙ q;
       four = c;
+      chord = w;
       list = parted (4 * n) es′ ∙ (λ i. t i ++ d i) ∙ ap (λ (j : ℕ). x ∷ xs ++ drop j es) m;
     }
 
@@ -57,9 +58,9 @@ untouched n {es} {es′} z d =
 
 -- a question got no, and the outcome is a refusal without errors
 pub gave-refused : {o : Outcome} {k : ℕ} {a : Answer} {r : Reading} (es : List ℕ) → o ≡ refused k → numberOf a ≡ k → countOf a ≡ 0 → r .answer ≡ a
-    → fourOf (r .chord) ≡ noChord → Gave o r es es
-gave-refused {o} {k} {a} {r} es e n m h c =
-    subst (λ (x : Outcome). Gave x r es es) (sym e) (record { number = ap numberOf h ∙ n; count = ap countOf h ∙ m; four = c; list = refl })
+    → fourOf (r .chord) ≡ noChord → r .chord ≡ recordOf noChord → Gave o r es es
+gave-refused {o} {k} {a} {r} es e n m h c w =
+    subst (λ (x : Outcome). Gave x r es es) (sym e) (record { number = ap numberOf h ∙ n; count = ap countOf h ∙ m; four = c; chord = w; list = refl })
 
 -- the same of an outcome that is equal
 pub gave-same : {o o′ : Outcome} {r : Reading} {es es′ : List ℕ} → o ≡ o′ → Gave o′ r es es′ → Gave o r es es′

@@ -3,7 +3,7 @@ use mathlib.Core.List.{List, _++_}
 use mathlib.Core.Path.{_≡_}
 use Prim.Native.Nat.{ℕ, _≤_}
 use lib.ListN.{drop, length, take}
-use Rattle.chord.specs.Chord.{fourOf}
+use Rattle.chord.specs.Chord.{fourOf, recordOf}
 use Rattle.folding.specs.Folding.{preProcess}
 use Rattle.lexer.specs.Lexer.{tokensOf}
 use Rattle.token.specs.Token.{Ranged, Room, Token, rows}
@@ -14,6 +14,7 @@ pub record Gave (o : Outcome) (r : Reading) (es es′ : List ℕ) : Type 0 where
   pub number : numberOf (r .answer) ≡ o .number
   pub count : countOf (r .answer) ≡ o .count
   pub four : fourOf (r .chord) ≡ o .four
+  pub chord : r .chord ≡ recordOf (o .four)
   pub list : es′ ≡ o .errs ++ drop (length (o .errs)) es
 
 -- what a caller of `read` knows: the text was read with the lent list es, which is es′ now, and the reading is r

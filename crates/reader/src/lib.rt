@@ -3,7 +3,7 @@ ghost use mathlib.Core.List.{map};
 ghost use mathlib.Core.Path.{_≡_};
 ghost use Prim.Native.Nat.{_+_, _≤_};
 ghost use lib.ListN.{length};
-ghost use Rattle.chord.specs.Chord.{fourOf, noChord};
+ghost use Rattle.chord.specs.Chord.{fourOf, noChord, recordOf};
 ghost use Rattle.expression.specs.Expression.{expOf};
 ghost use Rattle.evaluator.specs.State.{Sounds};
 ghost use Rattle.parser.specs.State.{Tokens};
@@ -29,8 +29,9 @@ pub struct Reading {
     pub chord: Chord,
 }
 
+// An answer with the record of no chord.
 fn refuse(answer: Answer) -> Reading
-    ensures { λ r. ⌜ (r .answer ≡ answer) × (fourOf (r .chord) ≡ noChord) ⌝ }
+    ensures { λ r. ⌜ (r .answer ≡ answer) × (fourOf (r .chord) ≡ noChord) × (r .chord ≡ recordOf noChord) ⌝ }
 {
     Reading {
         answer,

@@ -23,7 +23,7 @@ use Rattle.chord.specs.declared.note.RootModifier.{RootModifier}
 use Rattle.evaluator.specs.Display.{chosen, displayOf, order, shown}
 use Rattle.house.proofs.Bools.{and-left, and-right}
 use Rattle.house.specs.House.{displayBy, kindIn, susBy}
-use Rattle.house.specs.Question.{Low}
+use Rattle.house.proofs.Low.{Low}
 use Rattle.house.specs.declared.kind.Kind.the-variants.{Plain, Flat2, Second, Sharp4}
 use Rattle.house.specs.declared.kind.Kind.{Kind}
 use Rattle.nophtris.proofs.Bytes.{chord-length, padded, set-at, set-length}

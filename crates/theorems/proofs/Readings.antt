@@ -10,7 +10,7 @@ use native.Mathlib.Omega.{arith}
 use lib.Dec.{T, eqb, ltb, ltb→lt}
 use lib.ListN.{List·getD-append, drop, getD, length, length-append, length-drop}
 use borrow.Author.Tests.{eqb-false, ne-eqb}
-use Rattle.chord.specs.Chord.{Four, fourOf, noChord}
+use Rattle.chord.specs.Chord.{Four, fourOf, noChord, recordOf}
 use Rattle.chord.specs.declared.note.Note.{Note}
 use Rattle.chord.specs.declared.note.OptionalNote.the-variants.{Some}
 use Rattle.house.proofs.Bools.{and-left, and-right}
@@ -229,8 +229,10 @@ root-of text f a = let z = accepted-realizable text f a in (z .root, z .rooted)
 
 pub read-record : ReadRecord
 read-record text es es′ r g = (
-  λ e. let x = read-accepted text es es′ r g e in (x .0, root-of text (fourOfText text) (x .1)),
-  λ n. g .four ∙ no-four text (length es) (asked-first (length es) text) (λ e. n (g .number ∙ e)),
+  λ e.
+      let x = accepted-four text (length es) (asked-first (length es) text) (sym (g .number) ∙ e) in
+      (g .four ∙ x .0, g .chord ∙ ap recordOf (x .0), root-of text (fourOfText text) (x .1)),
+  λ n. g .chord ∙ ap recordOf (no-four text (length es) (asked-first (length es) text) (λ e. n (g .number ∙ e))),
 )
 
 -- the answer of a number and a count

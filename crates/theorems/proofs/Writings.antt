@@ -14,12 +14,12 @@ use lib.Seq.{take-append-seam}
 use borrow.Author.Tests.{le-ltb, ne-eqb}
 use Rattle.chord.specs.Chord.{Four, fourOf}
 use Rattle.chord.specs.declared.Chord.{Chord}
-use Rattle.house.specs.Question.{Low, realizable}
+use Rattle.house.specs.Question.{realizable}
 use Rattle.nophtris.proofs.Answers as C-answers
 use Rattle.nophtris.specs.Boundary.{fourIn, lengthAfter, valuesIn, writeIn}
 use Rattle.nophtris.specs.State as C
 use Rattle.pieces.proofs.Length.{house-length}
-use Rattle.pieces.proofs.Realized.{accepted-realizable, some-text, spelling-realizes}
+use Rattle.pieces.proofs.Realized.{Narrow, accepted-realizable, some-text, spelling-realizes}
 use Rattle.pieces.specs.Spelling.{house}
 use Rattle.reader.specs.Reader.{IsAccepted}
 use Rattle.theorems.proofs.Readings.{no, yes}
@@ -137,12 +137,12 @@ write-apart a b e l = sym (answer-back a) ∙ (λ i. answerOf (e i) (l i)) ∙ a
 
 module _ (cs : List ℕ) where
   -- the set that bytes hold has no member outside the table, so the test decides the question
-  low-in : Low (valuesIn cs .normalized)
+  narrow-in : Narrow (valuesIn cs .normalized)
   unfolding valuesIn
-  low-in j h = ap (λ (t : Bool). t && eqb (getD cs (4 + j) 0) 1) (le-ltb j 23 h)
+  narrow-in j h = ap (λ (t : Bool). t && eqb (getD cs (4 + j) 0) 1) (le-ltb j 23 (omega (arith, h)))
 
   pub decided-in : (realizable (valuesIn cs) ≡ true) ↔ HasText (valuesIn cs)
-  decided-in = some-text (valuesIn cs) low-in
+  decided-in = some-text (valuesIn cs) narrow-in
 
   c-numbered : (room : ℕ) {o : Outcome} → C-answers.Asked room cs o → Numbered room (fourIn cs) (o .number)
   c-numbered room (C-answers.short h) =

@@ -5,7 +5,7 @@ use mathlib.Core.Logic.{_↔_}
 use mathlib.Core.Path.{_≡_}
 use Prim.Native.Nat.{ℕ, _*_, _≤_, _<_}
 use lib.ListN.{drop, getD, length}
-use Rattle.chord.specs.Chord.{Four, fourOf, noChord}
+use Rattle.chord.specs.Chord.{Four, fourOf, noChord, recordOf}
 use Rattle.chord.specs.declared.note.Note.{Note}
 use Rattle.chord.specs.declared.note.OptionalNote.the-variants.{Some}
 use Rattle.evaluator.specs.Evaluator.{evalSet}
@@ -83,9 +83,11 @@ ReadUntouched = (text es es′ : List ℕ) (r : Reading) → Read text es es′ 
 
 -- ---- the record
 
--- "The record read from an accepted text has its four", and its root is a note; any other text gets the record of no chord
+-- "The record read from an accepted text has its four", it is the whole record of them, and its root is a note; any other text gets the record of
+-- no chord
 abbrev pub ReadRecord : Type 0
 ReadRecord =
     (text es es′ : List ℕ) (r : Reading) → Read text es es′ r
-    → (numberOf (r .answer) ≡ 0 → (fourOf (r .chord) ≡ fourOfText text) × ((n : Note) × (fourOfText text .root ≡ Some n)))
-    × ((numberOf (r .answer) ≡ 0 → ⊥) → fourOf (r .chord) ≡ noChord)
+    → (numberOf (r .answer) ≡ 0
+    → (fourOf (r .chord) ≡ fourOfText text) × (r .chord ≡ recordOf (fourOfText text)) × ((n : Note) × (fourOfText text .root ≡ Some n)))
+    × ((numberOf (r .answer) ≡ 0 → ⊥) → r .chord ≡ recordOf noChord)

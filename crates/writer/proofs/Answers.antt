@@ -1,7 +1,7 @@
 -- The two questions put to a record, by their answers: what each makes the outcome, from the outcome back to them, and that the code gave it.
 -- Every theorem on a writing goes by these.
 -- Assumes nothing.
-use mathlib.Core.Bool.{Bool, true, false, true≢false, not, cond, _&&_}
+use mathlib.Core.Bool.{Bool, true, false, not, cond}
 use mathlib.Core.List.{List, []}
 use mathlib.Core.Logic.{_↔_}
 use mathlib.Core.Path.{_≡_, refl, sym, ap, _∙_, subst}
@@ -10,13 +10,13 @@ use native.Mathlib.Omega.{arith}
 use lib.Dec.{ltb}
 use lib.ListN.{length}
 use borrow.Author.Tests.{lt-ltb, le-ltb, ltb-false, ltb-true}
-use Rattle.chord.specs.Chord.{Four, bit, fourOf, members}
+use Rattle.chord.proofs.Record.{members-narrow}
+use Rattle.chord.specs.Chord.{Four, fourOf}
 use Rattle.chord.specs.declared.Chord.{Chord}
-use Rattle.chord.specs.declared.interval.IntervalSet.{IntervalSet}
 use Rattle.chord.specs.declared.note.OptionalNote.the-variants.{None, Some}
 use Rattle.chord.specs.declared.note.OptionalNote.{OptionalNote}
 use Rattle.house.specs.House.{kindIn}
-use Rattle.house.specs.Question.{Low, realizable}
+use Rattle.house.specs.Question.{realizable}
 use Rattle.house.specs.declared.kind.Kind.{Kind}
 use Rattle.pieces.proofs.Realized.{some-text}
 use Rattle.pieces.specs.Spelling.{house, houseBy, spell}
@@ -28,13 +28,9 @@ use Rattle.writer.specs.declared.Answer.{Answer}
 
 -- ---- the test is the question
 
--- a record's set has no member outside the table, so the test decides the question
-low : (s : IntervalSet) → Low (members s)
-unfolding members
-low s j h = ap (λ (t : Bool). t && bit (s .bits) j) (le-ltb j 23 h)
-
+-- the test decides the question of any record
 pub decided : (c : Chord) → (realizable (fourOf c) ≡ true) ↔ HasText (fourOf c)
-decided c = some-text (fourOf c) (low (c .normalized))
+decided c = some-text (fourOf c) (members-narrow (c .normalized))
 
 -- a Boolean that says the same is the test
 pub is-test : (c : Chord) (b : Bool) → (b ≡ true) ↔ HasText (fourOf c) → realizable (fourOf c) ≡ b

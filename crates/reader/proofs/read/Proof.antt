@@ -14,7 +14,7 @@ returns : tie.Need-returns
 returns c =
     let s = c .before .before .before .before in
     let a = s .args in
-    gave-refused (a .errs .now) (short-list (length (a .errs .now)) (a .text .now) (c .before .if1 .taken)) refl refl (c .refuse .ensures .0) (c .refuse .ensures .1)
+    gave-refused (a .errs .now) (short-list (length (a .errs .now)) (a .text .now) (c .before .if1 .taken)) refl refl (c .refuse .ensures .0) (c .refuse .ensures .1) (c .refuse .ensures .2)
 
 refuse-requires-2 : tie.Need-refuse-requires-2
 refuse-requires-2 c κs = search needs
@@ -24,7 +24,7 @@ returns-2 c =
     let s = c .before .before .before .before .before in
     let a = s .args in
     let o = long-list (length (a .errs .now)) (a .text .now) (c .before .before .if1 .left) in
-    gave-refused (a .errs .now) (o ∙ long-text (a .text .now) (c .before .if2 .taken)) refl refl (c .refuse2 .ensures .0) (c .refuse2 .ensures .1)
+    gave-refused (a .errs .now) (o ∙ long-text (a .text .now) (c .before .if2 .taken)) refl refl (c .refuse2 .ensures .0) (c .refuse2 .ensures .1) (c .refuse2 .ensures .2)
 
 well-formed-requires : tie.Need-well-formed-requires
 well-formed-requires c κs = search needs
@@ -39,7 +39,7 @@ returns-3 c =
     let o = long-list (length (a .errs .now)) (a .text .now) (c .before .before .before .before .if1 .left) in
     let u = sym (c .before .before .well-formed .ensures) ∙ no (c .before .before .well-formed .result) (c .before .if3 .taken) in
     gave-refused (a .errs .now) (o ∙ not-utf8 (a .text .now) (c .before .before .before .if2 .left) u) refl refl (c .refuse3 .ensures .0)
-    (c .refuse3 .ensures .1)
+    (c .refuse3 .ensures .1) (c .refuse3 .ensures .2)
 
 read-text-requires : tie.Need-read-text-requires
 read-text-requires c κs = search needs
