@@ -137,7 +137,7 @@ closed h = counting (h .count -ℤ pos 1) (kept h)
 
 -- "A closing sign outside any bracket always gives kind 15 and lowers the count by one, below 0 if need be." (`rparen`)
 abbrev pub closeStep : Here → Effect
-closeStep h = within context.None (erring (UnexpectedClosingParenthesis (h .pos)) (closed h))
+closeStep h = within context.None (erring (UnexpectedClosingParenthesis (h .pos)) (counting (h .count -ℤ pos 1) (kept h)))
 
 -- `comma`
 abbrev pub commaStep : Here → Effect

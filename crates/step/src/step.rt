@@ -1,4 +1,4 @@
-// The token step: what each of the 23 types of tokens does, and what changes inside a bracket.
+// What the token step decides: what each of the 23 types of tokens does, and what changes inside a bracket.
 ghost use mathlib.Core.Path.{_≡_};
 ghost use Prim.Native.Nat.{_+_, _<_};
 ghost use lib.Signed.{mag, ltZ};
@@ -321,14 +321,18 @@ fn close(h: Here) -> Effect
     }
 }
 
-// A closing sign outside any bracket.
+// A closing sign outside any bracket is an error, lowers the count and sets the state to none.
 fn rparen(h: Here) -> Effect
     requires { ⌜ mag (h .count) < 1000 ⌝ }
     ensures { λ r. ⌜ r ≡ closeStep h ⌝ }
 {
-    close(h)
-        .set_error(ParserError::UnexpectedClosingParenthesis(h.pos))
-        .set_context(Context::None)
+    Effect {
+        taken: 0,
+        count: h.count - 1,
+        context: Context::None,
+        gains: Gains::None,
+        error: OptionalError::Some(ParserError::UnexpectedClosingParenthesis(h.pos)),
+    }
 }
 
 fn comma(h: Here) -> Effect
