@@ -32,6 +32,7 @@ use Rattle.token.specs.declared.TokenType.{TokenType}
 use Rattle.parser.specs.Parser.{Parsing, errorOf, gainsOf, rootEffect}
 use Rattle.parser.specs.State.{Did, Fits, Gained, Ready, Stored, Foreseen, aheadIn, reachOf, effectIn, hereIn, start}
 use Rattle.parser.specs.declared.state.State.{State}
+use Rattle.parser.proofs.Lists.{gained-none, gained-numbered}
 
 pub gains-length : (g : Gains) → length (gainsOf g) ≡ gainsCount g
 gains-length None = refl
@@ -50,7 +51,7 @@ did-effect st e {n} {m} {es} {es′} {xs} {xs′} s g ready h fits =
     let k : m ≡ st .exps + gainsCount (e .gains) = rw (← gains-length (e .gains)) (g .count) in
     record {
       same = λ i. found e (s .list i) (g .list i);
-      kept = record { more = s .least; gains = omega (arith, k); rest = s .rest; others = g .rest };
+      kept = record { more = s .least; gains = omega (arith, k); rest = s .rest; others = g .rest; numbered = gained-numbered g };
       moved = refl;
       ready = record {
         small = omega (arith, fits .taken);
@@ -128,7 +129,7 @@ pub begun : (root : OptionalNote) (nx : Next) (xs : List ℕ) {e : Effect} {n : 
     → Did (rootEffect root nx) start (record { at = 1 + e .taken; count = toZ w16 (ofZ w16 (e .count)); context = e .context; errors = n; exps = 0 }) es es′ xs xs
 begun root nx xs {e} {n} {es} {es′} h s =
     let none : gainsOf (e .gains) ≡ [] = ap (λ (d : Effect). gainsOf (d .gains)) h ∙ no-gains root in
-    let g : Gained 0 0 (gainsOf (e .gains)) xs xs = subst (λ (l : List Exp). Gained 0 0 l xs xs) (sym none) (record { list = refl; rest = refl; count = refl }) in
+    let g : Gained 0 0 (gainsOf (e .gains)) xs xs = subst (λ (l : List Exp). Gained 0 0 l xs xs) (sym none) (gained-none 0 xs) in
     let f = fits-root root nx h in
     let d = did-effect start e s g ready-start (omega arith) f in
     subst (λ (r : Effect). Did r start (record { at = 1 + e .taken; count = toZ w16 (ofZ w16 (e .count)); context = e .context; errors = n; exps = 0 }) es es′ xs xs) h

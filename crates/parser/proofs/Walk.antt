@@ -1,6 +1,6 @@
 -- The walk, token by token.
 use mathlib.Core.Bool.{Bool, true, false, cond}
-use mathlib.Core.List.{List, [], _∷_}
+use mathlib.Core.List.{List, [], _∷_, map}
 use mathlib.Core.Path.{_≡_, refl, sym, ap, subst, _∙_}
 use Prim.Native.Nat.{ℕ, zero, suc, _+_, _*_, _≤_, _<_}
 use native.Mathlib.Numerals.{add-one}
@@ -11,6 +11,7 @@ use lib.Seq.{drop-drop}
 use Rattle.chord.specs.declared.note.OptionalNote.{OptionalNote}
 use Rattle.chord.specs.declared.note.RootModifier.{RootModifier}
 use Rattle.behind.specs.Next.{noteIn, signIn}
+use Rattle.expression.specs.Expression.{expNumber}
 use Rattle.step.specs.Step.{bracketKind, insideOf}
 use Rattle.step.specs.declared.effect.Effect.{Effect}
 use Rattle.step.specs.declared.effect.Here.{Here}
@@ -34,7 +35,7 @@ skips (suc n) stk s [] = refl
 skips (suc n) stk s (t ∷ ts) = skips n stk s ts
 
 pub kept-none : (st : State) (es xs : List ℕ) → Kept st st es es xs xs
-kept-none st es xs = record { more = omega arith; gains = omega arith; rest = refl; others = refl }
+kept-none st es xs = record { more = omega arith; gains = omega arith; rest = refl; others = refl; numbered = λ h. h }
 
 pub kept-then : {st m r : State} {e₀ e₁ e₂ x₀ x₁ x₂ : List ℕ} → Kept st m e₀ e₁ x₀ x₁ → Kept m r e₁ e₂ x₁ x₂ → Kept st r e₀ e₂ x₀ x₂
 kept-then {st} {m} {r} {e₀} {e₁} {e₂} {x₀} {x₁} {x₂} a b =
@@ -43,6 +44,7 @@ kept-then {st} {m} {r} {e₀} {e₁} {e₂} {x₀} {x₁} {x₂} a b =
       gains = omega (arith, a .gains, b .gains);
       rest = b .rest ∙ later e₁ e₀ (4 * m .errors) (4 * r .errors) (omega (arith, b .more)) (a .rest);
       others = b .others ∙ later x₁ x₀ (m .exps) (r .exps) (b .gains) (a .others);
+      numbered = λ h. b .numbered (a .numbered h);
     }
 
 -- going on after an effect is going on from the state that the code has then
@@ -199,4 +201,13 @@ module _ (ks ps ls : List ℕ) (even : length ps ≡ length ks) (flat : length l
       let read : view r es₂ xs₂ ≡ walk [] (view u es₁ xs) (drop (u .at) T) = sym (w .went .same [] ∙ ap (λ (l : List Token). walk [] (view r es₂ xs₂) l) (drop-none ks ps ls (r .at) (w .whole refl))) in
       let v : view r es₂ xs₂ ≡ parseOf T = read ∙ sym (did-walk T [] d) ∙ (λ i. walk [] (applied (rootEffect (er i) (en i)) blank) (drop 1 T)) in
       let k = kept-then (d .kept) (w .kept) in
-      record { root = er; errs = ap (λ (s : Parsing). s .errs) v; rest = k .rest; exps = ap (λ (s : Parsing). s .exps) v; others = k .others; few = w .went .ready .errs; fewer = w .went .ready .exps }
+      record {
+        root = er;
+        errs = ap (λ (s : Parsing). s .errs) v;
+        rest = k .rest;
+        numbers = sym (k .numbered refl) ∙ ap (λ (s : Parsing). map expNumber (s .exps)) v;
+        exps = ap (λ (s : Parsing). s .exps) v;
+        others = k .others;
+        few = w .went .ready .errs;
+        fewer = w .went .ready .exps;
+      }

@@ -6,7 +6,7 @@ use Prim.Native.Nat.{ℕ, _+_, _*_, _≤_, _<_}
 use lib.IntN.{pos}
 use lib.ListN.{length, take, drop, getD}
 use lib.Signed.{mag}
-use Rattle.expression.specs.Expression.{expOf}
+use Rattle.expression.specs.Expression.{expNumber, expOf}
 use Rattle.expression.specs.declared.expression.Exp.{Exp}
 use Rattle.step.specs.Bounds.{gainsCount, susBit}
 use Rattle.behind.specs.Next.{nextOf}
@@ -38,6 +38,10 @@ bracketIn ks i = bracketKind (typeOf (getD ks i 0))
 -- the expressions that the first n numbers of an array stand for
 abbrev pub expsOf : ℕ → List ℕ → List Exp
 expsOf n xs = map expOf (take n xs)
+
+-- and they are the numbers of these expressions
+abbrev pub Numbered : ℕ → List ℕ → Type 0
+Numbered n xs = map expNumber (expsOf n xs) ≡ take n xs
 
 abbrev pub view : State → List ℕ → List ℕ → Parsing
 view st es xs =
@@ -129,8 +133,9 @@ pub record Stored (n r : ℕ) (more : List ℕ) (es es′ : List ℕ) : Type 0 w
   pub least : n ≤ r
   pub most : r ≤ n + 1
 
--- and the same of the expressions
+-- and the same of the expressions, each stored as its number
 pub record Gained (n r : ℕ) (more : List Exp) (xs xs′ : List ℕ) : Type 0 where
+  pub numbers : take r xs′ ≡ take n xs ++ map expNumber more
   pub list : expsOf r xs′ ≡ expsOf n xs ++ more
   pub rest : drop r xs′ ≡ drop r xs
   pub count : r ≡ n + length more
@@ -141,6 +146,7 @@ pub record Kept (st r : State) (es es′ xs xs′ : List ℕ) : Type 0 where
   pub gains : st .exps ≤ r .exps
   pub rest : drop (4 * r .errors) es′ ≡ drop (4 * r .errors) es
   pub others : drop (r .exps) xs′ ≡ drop (r .exps) xs
+  pub numbered : Numbered (st .exps) xs → Numbered (r .exps) xs′
 
 -- the token at st had the effect e
 pub record Did (e : Effect) (st r : State) (es es′ xs xs′ : List ℕ) : Type 0 where
@@ -172,6 +178,7 @@ pub record Parsed (ts : List Token) (r : Ast) (es es′ xs xs′ : List ℕ) : T
   pub root : r .root ≡ rootOf ts
   pub errs : take (4 * r .errors) es′ ≡ parseOf ts .errs
   pub rest : drop (4 * r .errors) es′ ≡ drop (4 * r .errors) es
+  pub numbers : take (r .exps) xs′ ≡ map expNumber (parseOf ts .exps)
   pub exps : expsOf (r .exps) xs′ ≡ parseOf ts .exps
   pub others : drop (r .exps) xs′ ≡ drop (r .exps) xs
   pub few : r .errors ≤ 257

@@ -21,7 +21,7 @@ same-length : tie.Need-same-length
 same-length c = search needs
 
 returns : tie.Need-returns
-returns c = gained-one _ _ _ _ (c .before .before .pre) (c .number .ensures .1)
+returns c = gained-one _ _ _ _ (c .before .before .pre) (c .number .ensures .0) (c .number .ensures .1)
 
 pub push-exp-spec : {M : Type 1} → statement M
 push-exp-spec =
