@@ -96,36 +96,35 @@ module _ (ks ps ls : List ℕ) (even : length ps ≡ length ks) (flat : length l
       ∙ ap (λ (j : ℕ). walk (enter (bracketIn ks (st .at)) (getD ps (st .at) 0) (leave (bracketIn ks (st .at)) stk)) (applied (effectAt stk (typeOf (getD ks (st .at) 0)) (hereIn ps ls xs st) (aheadOf (drop j T))) v) (drop j T)) m
       ∙ ap (λ (a : Ahead). walk (enter (bracketIn ks (st .at)) (getD ps (st .at) 0) (leave (bracketIn ks (st .at)) stk)) (applied (effectAt stk (typeOf (getD ks (st .at) 0)) (hereIn ps ls xs st) a) v) (drop (st .at + 1) T)) (ahead-is ks ps ls even flat (st .at + 1))
 
-  -- a token that opens no bracket was taken
-  pub took-alone : {e : Effect} {st r : State} {es es′ xs xs′ : List ℕ} → opens (bracketIn ks (st .at)) ≡ false → Did e st r es es′ xs xs′ → Took ks ps ls e st r es es′ xs xs′
-  took-alone {e} {st} {r} {es} {es′} {xs} {xs′} o d =
-      record {
-        went = record {
-          same = λ stk.
-              ap (λ (b : Bool). walk (cond b (getD ps (st .at) 0 ∷ stk) stk) (applied e (view st es xs)) (drop (st .at + 1) T)) o
-              ∙ did-walk T stk d;
-          ready = d .ready;
-        };
-        kept = d .kept;
-        forward = omega (arith, d .moved);
-      }
+  -- the token at st had the effect e, which the token step decided
+  module _ (b : Bracket) (q : ℕ) (st : State) (es xs : List ℕ) {e : Effect} (he : e ≡ effectIn ks ps ls xs st b q) where
+    -- going on after it, with the bracket that it opens
+    opened : {u : State} {es₁ xs₁ : List ℕ} (c : Bool) → opens (bracketIn ks (st .at)) ≡ c → Did e st u es es₁ xs xs₁ → (stk : List ℕ)
+        → walk (enter (bracketIn ks (st .at)) (getD ps (st .at) 0) stk) (applied (effectIn ks ps ls xs st b q) (view st es xs))
+        (drop (st .at + 1) T)
+        ≡ walk (cond c (getD ps (st .at) 0 ∷ stk) stk) (view u es₁ xs₁) (drop (u .at) T)
+    opened c o d stk =
+        (λ i. walk (cond (o i) (getD ps (st .at) 0 ∷ stk) stk) (applied (sym he i) (view st es xs)) (drop (st .at + 1) T))
+        ∙ did-walk T (cond c (getD ps (st .at) 0 ∷ stk) stk) d
 
-  -- a token was taken, and the bracket that it opens, from a copy of the state and back
-  pub took-bracket : {e : Effect} {st u v w r : State} {es es₁ es₂ xs xs₁ xs₂ : List ℕ} → opens (bracketIn ks (st .at)) ≡ true → Did e st u es es₁ xs xs₁ → v ≡ u → Read ks ps ls true (getD ps (st .at) 0) v w es₁ es₂ xs₁ xs₂ → r ≡ w → Took ks ps ls e st r es es₂ xs xs₂
-  took-bracket {e} {st} {u} {v} {w} {r} {es} {es₁} {es₂} {xs} {xs₁} {xs₂} o d copy read back =
-      let b : Read ks ps ls true (getD ps (st .at) 0) u w es₁ es₂ xs₁ xs₂ = subst (λ (x : State). Read ks ps ls true (getD ps (st .at) 0) x w es₁ es₂ xs₁ xs₂) copy read in
-      subst (λ (x : State). Took ks ps ls e st x es es₂ xs xs₂) (sym back)
-      (record {
-        went = record {
-          same = λ stk.
-              ap (λ (c : Bool). walk (cond c (getD ps (st .at) 0 ∷ stk) stk) (applied e (view st es xs)) (drop (st .at + 1) T)) o
-              ∙ did-walk T (getD ps (st .at) 0 ∷ stk) d
-              ∙ b .went .same stk;
-          ready = b .went .ready;
-        };
-        kept = kept-then (d .kept) (b .kept);
-        forward = omega (arith, d .moved, b .forward);
-      })
+    -- it opens none
+    pub took-alone : {r : State} {es′ xs′ : List ℕ} → opens (bracketIn ks (st .at)) ≡ false → Did e st r es es′ xs xs′
+        → Took ks ps ls b q st r es es′ xs xs′
+    took-alone o d =
+        record { went = record { same = opened false o d; ready = d .ready }; kept = d .kept; forward = omega (arith, d .moved) }
+
+    -- it opens one, which was read from a copy of the state and back
+    pub took-bracket : {u v w r : State} {es₁ es₂ xs₁ xs₂ : List ℕ} → opens (bracketIn ks (st .at)) ≡ true → Did e st u es es₁ xs xs₁
+        → v ≡ u → Read ks ps ls true (getD ps (st .at) 0) v w es₁ es₂ xs₁ xs₂ → r ≡ w → Took ks ps ls b q st r es es₂ xs xs₂
+    took-bracket {u} {v} {w} {r} {es₁} {es₂} {xs₁} {xs₂} o d copy read back =
+        let i : Read ks ps ls true (getD ps (st .at) 0) u w es₁ es₂ xs₁ xs₂ =
+        subst (λ (x : State). Read ks ps ls true (getD ps (st .at) 0) x w es₁ es₂ xs₁ xs₂) copy read in
+        subst (λ (x : State). Took ks ps ls b q st x es es₂ xs xs₂) (sym back)
+        (record {
+          went = record { same = λ stk. opened true o d stk ∙ i .went .same stk; ready = i .went .ready };
+          kept = kept-then (d .kept) (i .kept);
+          forward = omega (arith, d .moved, i .forward);
+        })
 
   module _ (inside : Bool) (q : ℕ) where
     pub within-none : (st : State) (es xs : List ℕ) → Ready st → Within ks ps ls inside q st st es es xs xs
@@ -153,18 +152,25 @@ module _ (ks ps ls : List ℕ) (even : length ps ≡ length ks) (flat : length l
           whole = λ _. h;
         }
 
-    module _ {e : Effect} {b : Bracket} (st : State) (es xs : List ℕ) (h : st .at < length ks) (hb : b ≡ bracketBy inside ks (st .at)) (he : e ≡ effectIn ks ps ls xs st b q) where
+    module _ {b : Bracket} (st : State) (es xs : List ℕ) (h : st .at < length ks) (hb : b ≡ bracketBy inside ks (st .at)) where
       -- one token and its effect
-      one : (stk : List ℕ) (c : Bool) → ends b ≡ c → walk (stackBy inside q stk) (view st es xs) (drop (st .at) T) ≡ walk (enter (bracketIn ks (st .at)) (getD ps (st .at) 0) (cond c stk (stackBy inside q stk))) (applied e (view st es xs)) (drop (st .at + 1) T)
+      one : (stk : List ℕ) (c : Bool) → ends b ≡ c → walk (stackBy inside q stk) (view st es xs) (drop (st .at) T)
+          ≡ walk (enter (bracketIn ks (st .at)) (getD ps (st .at) 0) (cond c stk (stackBy inside q stk)))
+          (applied (effectIn ks ps ls xs st b q) (view st es xs))
+          (drop (st .at + 1) T)
       one stk c o =
           let k = typeOf (getD ks (st .at) 0) in
-          let f : effectAt (stackBy inside q stk) k (hereIn ps ls xs st) (aheadIn ks ps (st .at + 1)) ≡ e = effect-by inside q stk k (hereIn ps ls xs st) (aheadIn ks ps (st .at + 1)) ∙ sym (he ∙ ap (λ (d : Bracket). effectIn ks ps ls xs st d q) hb) in
-          let l : leave (bracketIn ks (st .at)) (stackBy inside q stk) ≡ cond c stk (stackBy inside q stk) = left inside q (bracketIn ks (st .at)) stk ∙ ap (λ (d : Bool). cond d stk (stackBy inside q stk)) (sym (ap ends hb) ∙ o) in
+          let f : effectAt (stackBy inside q stk) k (hereIn ps ls xs st) (aheadIn ks ps (st .at + 1)) ≡ effectIn ks ps ls xs st b q =
+          effect-by inside q stk k (hereIn ps ls xs st) (aheadIn ks ps (st .at + 1))
+          ∙ sym (ap (λ (d : Bracket). effectIn ks ps ls xs st d q) hb) in
+          let l : leave (bracketIn ks (st .at)) (stackBy inside q stk) ≡ cond c stk (stackBy inside q stk) =
+          left inside q (bracketIn ks (st .at)) stk ∙ ap (λ (d : Bool). cond d stk (stackBy inside q stk)) (sym (ap ends hb) ∙ o) in
           turned (stackBy inside q stk) st es xs h
           ∙ (λ i. walk (enter (bracketIn ks (st .at)) (getD ps (st .at) 0) (l i)) (applied (f i) (view st es xs)) (drop (st .at + 1) T))
 
       -- it ends the bracket
-      pub read-ends : {r : State} {es′ xs′ : List ℕ} → ends b ≡ true → Took ks ps ls e st r es es′ xs xs′ → Read ks ps ls inside q st r es es′ xs xs′
+      pub read-ends : {r : State} {es′ xs′ : List ℕ} → ends b ≡ true → Took ks ps ls b q st r es es′ xs xs′
+          → Read ks ps ls inside q st r es es′ xs xs′
       read-ends o t =
           record {
             went = record { same = λ stk. one stk true o ∙ t .went .same stk; ready = t .went .ready };
@@ -174,7 +180,8 @@ module _ (ks ps ls : List ℕ) (even : length ps ≡ length ks) (flat : length l
           }
 
       -- it does not, and tokens are read on
-      pub within-one : {u : State} {es₁ xs₁ : List ℕ} → ends b ≡ false → Took ks ps ls e st u es es₁ xs xs₁ → Within ks ps ls inside q st u es es₁ xs xs₁
+      pub within-one : {u : State} {es₁ xs₁ : List ℕ} → ends b ≡ false → Took ks ps ls b q st u es es₁ xs xs₁
+          → Within ks ps ls inside q st u es es₁ xs xs₁
       within-one o t =
           record { same = λ stk. one stk false o ∙ t .went .same (stackBy inside q stk); kept = t .kept; ready = t .went .ready; forward = omega (arith, t .forward) }
 

@@ -160,9 +160,10 @@ pub record Went (T : List Token) (q : List ℕ → List ℕ) (s : Parsing) (ts :
   pub same : (stk : List ℕ) → walk (q stk) s ts ≡ walk stk (view r es xs) (drop (r .at) T)
   pub ready : Ready r
 
--- the token at st, with its effect e, and the bracket that it opens were taken
-pub record Took (ks ps ls : List ℕ) (e : Effect) (st r : State) (es es′ xs xs′ : List ℕ) : Type 0 where
-  pub went : Went (rows ks ps ls) (enter (bracketIn ks (st .at)) (getD ps (st .at) 0)) (applied e (view st es xs)) (drop (st .at + 1) (rows ks ps ls)) r es′ xs′
+-- the token at st, which is b to the bracket opened at q, and the bracket that it opens were taken
+pub record Took (ks ps ls : List ℕ) (b : Bracket) (q : ℕ) (st r : State) (es es′ xs xs′ : List ℕ) : Type 0 where
+  pub went : Went (rows ks ps ls) (enter (bracketIn ks (st .at)) (getD ps (st .at) 0))
+      (applied (effectIn ks ps ls xs st b q) (view st es xs)) (drop (st .at + 1) (rows ks ps ls)) r es′ xs′
   pub kept : Kept st r es es′ xs xs′
   pub forward : st .at < r .at
 

@@ -1,4 +1,5 @@
-// The walk over the tokens: the root, then each token by its effect. `read_tokens`, which reads a bracket too, and `take_token` call each other.
+// The walk over the tokens: the root, then each token by the token step. The token step `take_token` and the bracket reader `read_tokens`
+// call each other.
 ghost use mathlib.Core.List.{List};
 ghost use mathlib.Core.Path.{_≡_};
 ghost use Prim.Native.Nat.{ℕ, _≤_, _<_};
@@ -67,7 +68,7 @@ fn bracket_at(inside: bool, kinds: &[u8], i: usize) -> Bracket
     Bracket::Other
 }
 
-// The effect of the token at st.at, which is `bracket` to the bracket opened at `pos`.
+// What the token step decides: the effect of the token at st.at, which is `bracket` to the bracket opened at `pos`.
 fn effect_at(
     kinds: &[u8],
     poss: &[u16],
@@ -91,20 +92,24 @@ fn effect_at(
     )
 }
 
-// Takes the token at st.at, which has the effect e, and the bracket that it opens.
+// The token step: decides what the token at st.at does, which is `bracket` to the bracket opened at `pos`, does it, and has the bracket
+// that it opens read.
 fn take_token(
     kinds: &[u8],
     poss: &[u16],
     lens: &[u16],
     st: State,
-    e: Effect,
+    bracket: Bracket,
+    pos: u16,
     errs: &mut [u16],
     exps: &mut [u32],
 ) -> State
-    requires { ⌜ Tokens (now kinds) (now poss) (now lens) × (st .at < length (now kinds)) × Ready st × Fits st e × Space (now errs) (now exps) ⌝ }
-    ensures { λ r. ⌜ Took (now (kinds .entry)) (now (poss .entry)) (now (lens .entry)) e st r (now (errs .entry)) (now (errs .exit)) (now (exps .entry)) (now (exps .exit)) ⌝ }
+    requires { ⌜ Tokens (now kinds) (now poss) (now lens) × (st .at < length (now kinds)) × Ready st × Space (now errs) (now exps) ⌝ }
+    ensures { λ r. ⌜ Took (now (kinds .entry)) (now (poss .entry)) (now (lens .entry)) bracket pos st r
+        (now (errs .entry)) (now (errs .exit)) (now (exps .entry)) (now (exps .exit)) ⌝ }
 {
     let at = st.at;
+    let e = effect_at(kinds, poss, lens, exps, st, bracket, pos);
     let u = apply(st, e, errs, exps);
     if opens_at(kinds, at) {
         let r = read_tokens(kinds, poss, lens, u.copied(), true, poss[at], errs, exps);
@@ -113,7 +118,7 @@ fn take_token(
     u
 }
 
-// Reads tokens from st.at on: to the closing sign of the bracket that was opened at `pos`, or all of them where none is open.
+// The bracket reader: takes tokens from st.at on, to the closing sign of the bracket opened at `pos`, or all of them where none is open.
 fn read_tokens(
     kinds: &[u8],
     poss: &[u16],
@@ -130,8 +135,7 @@ fn read_tokens(
     let mut s = st;
     while s.at < kinds.len() {
         let bracket = bracket_at(inside, kinds, s.at);
-        let e = effect_at(kinds, poss, lens, exps, s, bracket, pos);
-        s = take_token(kinds, poss, lens, s, e, errs, exps);
+        s = take_token(kinds, poss, lens, s, bracket, pos, errs, exps);
         if is_end(bracket) {
             return s;
         }

@@ -47,11 +47,23 @@ take-token-below t =
 
 -- what the calls in `read_tokens` ask and give, below the measure t
 abbrev read-tokens-claims : ℕ → read-tokens-lts.Claims
-read-tokens-claims t = (bracket-at-reads.Asked, bracket-at-reads.Learnt, effect-at-reads.Asked, effect-at-reads.Learnt, take-token-below t, take-token.Post, is-end-reads.Asked, is-end-reads.Learnt)
+read-tokens-claims t =
+    (bracket-at-reads.Asked, bracket-at-reads.Learnt, take-token-below t, take-token.Post, is-end-reads.Asked, is-end-reads.Learnt)
 
 -- and those in `take_token`
 abbrev take-token-claims : ℕ → take-token-lts.Claims
-take-token-claims t = (apply-reads.Asked, apply-reads.Learnt, opens-at-reads.Asked, opens-at-reads.Learnt, copied-reads.Asked, copied-reads.Learnt, read-tokens-below t, read-tokens.Post)
+take-token-claims t = (
+  effect-at-reads.Asked,
+  effect-at-reads.Learnt,
+  apply-reads.Asked,
+  apply-reads.Learnt,
+  opens-at-reads.Asked,
+  opens-at-reads.Learnt,
+  copied-reads.Asked,
+  copied-reads.Learnt,
+  read-tokens-below t,
+  read-tokens.Post,
+)
 
 abbrev Inv : read-tokens-lts.InvT-loop
 Inv kinds poss lens inside pos errs₀ exps₀ s₀ errs exps s =
@@ -69,17 +81,19 @@ read-tokens-loop-holds t c =
 read-tokens-bracket-at-requires : (t : ℕ) → read-tokens-lts.Need-bracket-at-requires (read-tokens-claims t) (read-tokens-at t) read-tokens.Post Inv μ-loop
 read-tokens-bracket-at-requires t c κs = c .if1 .taken
 
-read-tokens-effect-at-requires : (t : ℕ) → read-tokens-lts.Need-effect-at-requires (read-tokens-claims t) (read-tokens-at t) read-tokens.Post Inv μ-loop
-read-tokens-effect-at-requires t c κs =
-    let s = c .before .before .before .before .before .before .before .before .before .before in
-    let i = c .before .before .before .before .loop .inv in
-    (s .pre .1 .0, c .before .before .if1 .taken, i .0 .ready, omega (arith, s .pre .1 .2 .exps, i .2))
-
 read-tokens-take-token-requires : (t : ℕ) → read-tokens-lts.Need-take-token-requires (read-tokens-claims t) (read-tokens-at t) read-tokens.Post Inv μ-loop
 read-tokens-take-token-requires t c κs =
-    let s = c .before .before .before .before .before .before .before .before .before .before .before .before .before in
-    let i = c .before .before .before .before .before .before .before .loop .inv in
-    (omega (arith, s .pre .0, i .0 .forward), (s .pre .1 .0, c .before .before .before .before .before .if1 .taken, i .0 .ready, c .before .before .effect-at .ensures .1, record { errs = omega (arith, s .pre .1 .2 .errs, i .1); exps = omega (arith, s .pre .1 .2 .exps, i .2) }))
+    let l = c .before .before .before .before .before in
+    let i = l .loop .inv in
+    let p = l .before .before .before .before .before .before .pre in (
+      omega (arith, p .0, i .0 .forward),
+      (
+        p .1 .0,
+        c .before .before .before .if1 .taken,
+        i .0 .ready,
+        record { errs = omega (arith, p .1 .2 .errs, i .1); exps = omega (arith, p .1 .2 .exps, i .2) },
+      ),
+    )
 
 read-tokens-is-end-requires : (t : ℕ) → read-tokens-lts.Need-is-end-requires (read-tokens-claims t) (read-tokens-at t) read-tokens.Post Inv μ-loop
 read-tokens-is-end-requires t c κs = search needs
@@ -92,21 +106,36 @@ read-tokens-same-length-2 t c = search needs
 
 read-tokens-returns : (t : ℕ) → read-tokens-lts.Need-returns (read-tokens-claims t) (read-tokens-at t) read-tokens.Post Inv μ-loop
 read-tokens-returns t c =
-    let s = c .before .before .before .before .before .before .before .before .before .before .before .before .before .before .before .before .before .before .before .before in
+    let k = c .before .before .before .before .before .before in
+    let b = k .before .before .before in
+    let l = b .before .before .before in
+    let s = l .before .before .before .before .before .before in
     let a = s .args in
-    let l = c .before .before .before .before .before .before .before .before .before .before .before .before .before .before .loop in
-    read-then (a .kinds .now) (a .poss .now) (a .lens .now) (s .pre .1 .0 .poss) (s .pre .1 .0 .lens) (a .inside) (a .pos) (l .inv .0) (read-ends (a .kinds .now) (a .poss .now) (a .lens .now) (s .pre .1 .0 .poss) (s .pre .1 .0 .lens) (a .inside) (a .pos) (l .s) (l .errs) (l .exps) (c .before .before .before .before .before .before .before .before .before .before .before .before .if1 .taken) (c .before .before .before .before .before .before .before .before .before .before .before .bracket-at .ensures) (c .before .before .before .before .before .before .before .before .before .effect-at .ensures .0) (sym (c .before .is-end .ensures) ∙ c .if2 .taken) (c .before .before .before .before .before .before .take-token .ensures))
+    read-then (a .kinds .now) (a .poss .now) (a .lens .now) (s .pre .1 .0 .poss) (s .pre .1 .0 .lens) (a .inside) (a .pos) (l .loop .inv .0)
+    (read-ends (a .kinds .now) (a .poss .now) (a .lens .now) (s .pre .1 .0 .poss) (s .pre .1 .0 .lens) (a .inside) (a .pos)
+    (l .loop .s) (l .loop .errs) (l .loop .exps) (b .before .if1 .taken) (b .bracket-at .ensures)
+    (sym (c .before .is-end .ensures) ∙ c .if2 .taken) (k .take-token .ensures))
 
 read-tokens-loop-less : (t : ℕ) → read-tokens-lts.Need-loop-less (read-tokens-claims t) (read-tokens-at t) read-tokens.Post Inv μ-loop
-read-tokens-loop-less t c = omega (arith, c .before .before .before .before .before .before .take-token .ensures .forward, c .before .before .before .before .before .before .before .before .before .before .before .before .if1 .taken)
+read-tokens-loop-less t c =
+    let k = c .before .before .before .before .before .before in
+    omega (arith, k .take-token .ensures .forward, k .before .before .before .before .if1 .taken)
 
 read-tokens-loop-again : (t : ℕ) → read-tokens-lts.Need-loop-again (read-tokens-claims t) (read-tokens-at t) read-tokens.Post Inv μ-loop
 read-tokens-loop-again t c =
-    let s = c .before .before .before .before .before .before .before .before .before .before .before .before .before .before .before .before .before .before .before .before in
-    let a = s .args in
-    let l = c .before .before .before .before .before .before .before .before .before .before .before .before .before .before .loop in
-    let t = c .before .before .before .before .before .before .take-token in
-    (within-then (a .kinds .now) (a .poss .now) (a .lens .now) (s .pre .1 .0 .poss) (s .pre .1 .0 .lens) (a .inside) (a .pos) (l .inv .0) (within-one (a .kinds .now) (a .poss .now) (a .lens .now) (s .pre .1 .0 .poss) (s .pre .1 .0 .lens) (a .inside) (a .pos) (l .s) (l .errs) (l .exps) (c .before .before .before .before .before .before .before .before .before .before .before .before .if1 .taken) (c .before .before .before .before .before .before .before .before .before .before .before .bracket-at .ensures) (c .before .before .before .before .before .before .before .before .before .effect-at .ensures .0) (sym (c .before .is-end .ensures) ∙ c .if2 .left) (t .ensures)), omega (arith, l .inv .1, t .kept), omega (arith, l .inv .2, t .kept))
+    let k = c .before .before .before .before .before .before in
+    let b = k .before .before .before in
+    let l = b .before .before .before in
+    let s = l .before .before .before .before .before .before in
+    let a = s .args in (
+      within-then (a .kinds .now) (a .poss .now) (a .lens .now) (s .pre .1 .0 .poss) (s .pre .1 .0 .lens)
+          (a .inside) (a .pos) (l .loop .inv .0)
+          (within-one (a .kinds .now) (a .poss .now) (a .lens .now) (s .pre .1 .0 .poss) (s .pre .1 .0 .lens) (a .inside) (a .pos)
+          (l .loop .s) (l .loop .errs) (l .loop .exps) (b .before .if1 .taken) (b .bracket-at .ensures)
+          (sym (c .before .is-end .ensures) ∙ c .if2 .left) (k .take-token .ensures)),
+      omega (arith, l .loop .inv .1, k .take-token .kept),
+      omega (arith, l .loop .inv .2, k .take-token .kept),
+    )
 
 read-tokens-same-length-3 : (t : ℕ) → read-tokens-lts.Need-same-length-3 (read-tokens-claims t) (read-tokens-at t) read-tokens.Post Inv μ-loop
 read-tokens-same-length-3 t c = search needs
@@ -120,34 +149,51 @@ read-tokens-returns-2 t c =
     let a = s .args in
     read-none (a .kinds .now) (a .poss .now) (a .lens .now) (s .pre .1 .0 .poss) (s .pre .1 .0 .lens) (a .inside) (a .pos) (c .if1 .left) (c .before .before .loop .inv .0)
 
+take-token-effect-at-requires : (t : ℕ) → take-token-lts.Need-effect-at-requires (take-token-claims t) (take-token-at t) take-token.Post
+take-token-effect-at-requires t c κs = let p = c .before .before .before .before .before .before .pre .1 in (p .0, p .1, p .2, p .3 .exps)
+
 take-token-apply-requires : (t : ℕ) → take-token-lts.Need-apply-requires (take-token-claims t) (take-token-at t) take-token.Post
 take-token-apply-requires t c κs =
-    let s = c .before .before .before .before .before .before .before in
-    let a = s .args in
-    (s .pre .1 .2, omega (arith, s .pre .1 .0 .few, s .pre .1 .1), s .pre .1 .3, s .pre .1 .4)
+    let p = c .before .before .before .before .before .before .before .before .before .pre .1 in
+    (p .2, omega (arith, p .0 .few, p .1), c .before .before .effect-at .ensures .1, p .3)
 
 take-token-opens-at-requires : (t : ℕ) → take-token-lts.Need-opens-at-requires (take-token-claims t) (take-token-at t) take-token.Post
-take-token-opens-at-requires t c κs = c .before .before .before .before .before .before .before .before .before .before .before .before .pre .1 .1
+take-token-opens-at-requires t c κs =
+    let d = c .before .before .before .before in
+    d .before .before .before .before .before .before .before .before .before .before .pre .1 .1
 
 take-token-copied-requires : (t : ℕ) → take-token-lts.Need-copied-requires (take-token-claims t) (take-token-at t) take-token.Post
-take-token-copied-requires t c κs = omega (arith, c .before .before .before .before .before .before .apply .ensures .ready .bound, c .before .before .before .before .before .before .apply .ensures .ready .small)
+take-token-copied-requires t c κs =
+    let r = c .before .before .before .before .before .before .apply .ensures .ready in
+    omega (arith, r .bound, r .small)
 
 take-token-mul-read-tokens : (t : ℕ) → take-token-lts.Need-mul-read-tokens (take-token-claims t) (take-token-at t) take-token.Post
 take-token-mul-read-tokens t c = search needs
 
 take-token-shared-slice-read-read-tokens : (t : ℕ) → take-token-lts.Need-shared-slice-read-read-tokens (take-token-claims t) (take-token-at t) take-token.Post
 take-token-shared-slice-read-read-tokens t c =
-    let s = c .before .before .before .before .before .before .before .before .before .before .before .before .before .before .before .before in
-    omega (arith, s .pre .1 .0 .poss, s .pre .1 .1)
+    let d = c .before .before .before .before .before .before .before .before in
+    let p = d .before .before .before .before .before .before .before .before .before .before .pre .1 in
+    omega (arith, p .0 .poss, p .1)
 
 take-token-read-tokens-requires : (t : ℕ) → take-token-lts.Need-read-tokens-requires (take-token-claims t) (take-token-at t) take-token.Post
 take-token-read-tokens-requires t c κs =
-    let s = c .before .before .before .before .before .before .before .before .before .before .before .before .before .before .before .before .before .before in
-    let d = c .before .before .before .before .before .before .before .before .before .before .apply in
-    rw (c .before .before .before .copied .ensures) (omega (arith, s .pre .0, d .ensures .moved, s .pre .1 .1), (s .pre .1 .0, d .ensures .ready, record { errs = omega (arith, s .pre .1 .4 .errs, d .kept); exps = omega (arith, s .pre .1 .4 .exps, d .kept) }))
+    let d = c .before .before .before .before .before .before .before .before .before .before in
+    let s = d .before .before .before .before .before .before .before .before .before .before in
+    let p = s .pre .1 in
+    rw (c .before .before .before .copied .ensures) (
+      omega (arith, s .pre .0, d .apply .ensures .moved, p .1),
+      (
+        p .0,
+        d .apply .ensures .ready,
+        record { errs = omega (arith, p .3 .errs, d .apply .kept); exps = omega (arith, p .3 .exps, d .apply .kept) },
+      ),
+    )
 
 take-token-copied-requires-2 : (t : ℕ) → take-token-lts.Need-copied-requires-2 (take-token-claims t) (take-token-at t) take-token.Post
-take-token-copied-requires-2 t c κs = omega (arith, c .before .before .before .before .read-tokens .ensures .went .ready .bound, c .before .before .before .before .read-tokens .ensures .went .ready .small)
+take-token-copied-requires-2 t c κs =
+    let r = c .before .before .before .before .read-tokens .ensures .went .ready in
+    omega (arith, r .bound, r .small)
 
 take-token-same-length : (t : ℕ) → take-token-lts.Need-same-length (take-token-claims t) (take-token-at t) take-token.Post
 take-token-same-length t c = search needs
@@ -157,9 +203,17 @@ take-token-same-length-2 t c = search needs
 
 take-token-returns : (t : ℕ) → take-token-lts.Need-returns (take-token-claims t) (take-token-at t) take-token.Post
 take-token-returns t c =
-    let s = c .before .before .before .before .before .before .before .before .before .before .before .before .before .before .before .before .before .before .before .before .before .before .before .before in
+    let r = c .before .before .before .before .before in
+    let k = r .before .before .before .before in
+    let o = k .before .before in
+    let d = o .before .before .before .before .before in
+    let e = d .before .before .before in
+    let s = e .before .before .before .before .before .before .before in
     let a = s .args in
-    took-bracket (a .kinds .now) (a .poss .now) (a .lens .now) (s .pre .1 .0 .poss) (s .pre .1 .0 .lens) (sym (c .before .before .before .before .before .before .before .before .before .before .before .opens-at .ensures) ∙ c .before .before .before .before .before .before .before .before .before .before .if1 .taken) (c .before .before .before .before .before .before .before .before .before .before .before .before .before .before .before .before .apply .ensures) (c .before .before .before .before .before .before .before .before .before .copied .ensures) (c .before .before .before .before .before .read-tokens .ensures) (c .copied2 .ensures)
+    took-bracket (a .kinds .now) (a .poss .now) (a .lens .now) (s .pre .1 .0 .poss) (s .pre .1 .0 .lens)
+    (a .bracket) (a .pos) (a .st) (a .errs .now) (a .exps .now) (e .effect-at .ensures .0)
+    (sym (o .opens-at .ensures) ∙ k .before .if1 .taken)
+    (d .apply .ensures) (k .copied .ensures) (r .read-tokens .ensures) (c .copied2 .ensures)
 
 take-token-same-length-3 : (t : ℕ) → take-token-lts.Need-same-length-3 (take-token-claims t) (take-token-at t) take-token.Post
 take-token-same-length-3 t c = search needs
@@ -169,9 +223,15 @@ take-token-same-length-4 t c = search needs
 
 take-token-returns-2 : (t : ℕ) → take-token-lts.Need-returns-2 (take-token-claims t) (take-token-at t) take-token.Post
 take-token-returns-2 t c =
-    let s = c .before .before .before .before .before .before .before .before .before .before .before .before .before .before in
+    let o = c .before in
+    let d = o .before .before .before .before .before in
+    let e = d .before .before .before in
+    let s = e .before .before .before .before .before .before .before in
     let a = s .args in
-    took-alone (a .kinds .now) (a .poss .now) (a .lens .now) (s .pre .1 .0 .poss) (s .pre .1 .0 .lens) (sym (c .before .opens-at .ensures) ∙ c .if1 .left) (c .before .before .before .before .before .before .apply .ensures)
+    took-alone (a .kinds .now) (a .poss .now) (a .lens .now) (s .pre .1 .0 .poss) (s .pre .1 .0 .lens)
+    (a .bracket) (a .pos) (a .st) (a .errs .now) (a .exps .now) (e .effect-at .ensures .0)
+    (sym (o .opens-at .ensures) ∙ c .if1 .left)
+    (d .apply .ensures)
 
 pub +read-tokens+take-token-spec : {M : Type 1} → statement M
 +read-tokens+take-token-spec = close μ-read-tokens μ-take-token (λ t. read-tokens-lts.spec (read-tokens-claims t)
@@ -181,7 +241,6 @@ pub +read-tokens+take-token-spec : {M : Type 1} → statement M
     μ-loop
     (read-tokens-loop-holds t)
     (read-tokens-bracket-at-requires t)
-    (read-tokens-effect-at-requires t)
     (read-tokens-take-token-requires t)
     (read-tokens-is-end-requires t)
     (read-tokens-same-length t)
@@ -195,6 +254,7 @@ pub +read-tokens+take-token-spec : {M : Type 1} → statement M
     λ t. take-token-lts.spec (take-token-claims t)
     (take-token-at t)
     take-token.Post
+    (take-token-effect-at-requires t)
     (take-token-apply-requires t)
     (take-token-opens-at-requires t)
     (take-token-copied-requires t)

@@ -1,4 +1,4 @@
--- The token step is asked about what stands there; its laws give the bounds.
+-- What is decided of the token that stands there; the laws of its effect give the bounds.
 use Rattle.parser.proofs.Effects.{effect-at}
 use Rattle.parser.proofs.Rows.{ranged-row}
 use Rattle.parser.proofs.parser.effect_at.Statement.{statement}
