@@ -37,7 +37,7 @@ use Rattle.step.specs.declared.step.Bracket.{Bracket}
 use Rattle.token.specs.Token.{Token, typeOf}
 use Rattle.token.specs.declared.TokenType.the-variants as type
 use Rattle.token.specs.declared.TokenType.{TokenType}
-use Rattle.validator.specs.Validator.{only, orElse, firstFrom, allFrom, wrongOf, firstWrong, countOf, repeatedAt, repeated, expressionErrors, among, addTargets, omitTargets, badExtensions, faultOf, seeing, extensionFault, reported, others, conflictAt, extensionErrors, three, lastBelow, neighboursAt, semitoneErrors, validationOf}
+use Rattle.validator.specs.Validator.{only, orElse, firstFrom, allFrom, wrongOf, firstWrong, countOf, repeatedAt, repeated, expressionErrors, among, addTargets, omitTargets, badExtensions, faultOf, seeing, extensionFault, reported, others, conflictAt, extensionErrors, lastBelow, neighboursAt, present, three, semitoneErrors, validationOf}
 use Rattle.parser.proofs.Laws.{errors-most}
 
 -- 1 to 17 but for 13
@@ -270,14 +270,12 @@ extension-errors : (l : List Exp) (s : Set) → Errors 8 (extensionErrors l s)
 extension-errors l s =
     else-errors (extensionFault empty l) (allFrom (conflictAt s) 8 0) (wider 8 (omega arith) (extension-fault-errors empty l)) (all-errors (conflictAt s) (conflict-errors s) 8 0)
 
-three-errors : (a b c : ℕ) → Errors 1 (three a b c)
-three-errors a b c = only-errors (ltb a 23 && (ltb b 23 && ltb c 23)) (ThreeConsecutiveSemitones a b c) tt
-
 semitone-errors : (s : Set) → Errors 12 (semitoneErrors s)
 unfolding semitoneErrors
 semitone-errors s =
     let last = lastBelow 23 s in
-    all-errors (neighboursAt last) (λ c. three-errors (last c) (last ((c + 1) % 12)) (last ((c + 2) % 12))) 12 0
+    all-errors (neighboursAt (present s) last)
+    (λ c. only-errors (three (present s) c) (ThreeConsecutiveSemitones (last c) (last ((c + 1) % 12)) (last ((c + 2) % 12))) tt) 12 0
 
 -- one of the expressions, one for each of eight pairs and one for each of twelve classes, at most
 validation-21 : (l : List Exp) (s : Set) → Errors 21 (validationOf l s)

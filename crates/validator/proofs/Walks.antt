@@ -1,17 +1,20 @@
 -- One step of each walk of the definitions, at a number or at an expression of the lent list.
 -- Assumes nothing.
-use mathlib.Core.Bool.{cond, _&&_}
+use mathlib.Core.Bool.{Bool, true, false, cond, _&&_, _||_}
 use mathlib.Core.List.{List, [], _∷_, _++_, map, append-assoc, append-nil}
 use mathlib.Core.Path.{_≡_, refl, sym, ap, _∙_}
 use Prim.Native.Nat.{ℕ, zero, suc, _+_, _-_, _%_, _≤_, _<_}
 use native.Mathlib.Omega.{arith}
-use lib.Dec.{eqb}
+use borrow.Author.Tests.{lt-ltb}
+use lib.Dec.{eqb, ltb}
 use lib.ListN.{length, drop, getD, drop-of-length-le}
 use lib.Seq.{drop-cons}
 use Rattle.chord.specs.Interval.{Set, semitones}
 use Rattle.expression.specs.Expression.{expOf}
 use Rattle.expression.specs.declared.expression.Exp.{Exp}
-use Rattle.validator.specs.Validator.{firstFrom, allFrom, orElse, wrongOf, firstWrong, priorityOf, countOf, faultOf, seeing, extensionFault, lastBelow, three, neighboursAt, semitoneErrors}
+use Rattle.expression.specs.declared.parser_error.ParserError.the-variants.{ThreeConsecutiveSemitones}
+use Rattle.validator.specs.Validator.{firstFrom, allFrom, orElse, wrongOf, firstWrong, priorityOf, countOf, faultOf, seeing, extensionFault, lastBelow, neighboursAt, only, present, presentBelow, semitoneErrors}
+use Rattle.validator.specs.State.{neighboursIn}
 
 -- the expressions from the i-th on
 abbrev pub expsFrom : List ℕ → ℕ → List Exp
@@ -114,12 +117,29 @@ unfolding allFrom
 all-same f g zero i h = refl
 all-same f g (suc n) i h = ap (λ (l : List ℕ). l ++ allFrom f n (suc i)) (h i (omega arith)) ∙ ap (λ (l : List ℕ). g i ++ l) (all-same f g n (suc i) (λ k b. h k (omega arith)))
 
-neighbours-same : (f g : ℕ → ℕ) → ((k : ℕ) → k < 12 → f k ≡ g k) → (k : ℕ) → k < 12 → neighboursAt f k ≡ neighboursAt g k
-neighbours-same f g h k b =
+-- a class is present where it has a last interval
+last-present : (n : ℕ) (s : Set) (c : ℕ) → n ≤ 23 → ltb (lastBelow n s c) 23 ≡ presentBelow n s c
+unfolding lastBelow
+last-present zero s c h = refl
+last-present (suc n) s c h = go (s n && eqb (semitones n % 12) c) (last-present n s c (omega arith))
+  where
+    go : (t : Bool) → ltb (lastBelow n s c) 23 ≡ presentBelow n s c → ltb (cond t n (lastBelow n s c)) 23 ≡ t || presentBelow n s c
+    go true e = lt-ltb n 23 (omega arith)
+    go false e = e
+
+neighbours-same : (last : ℕ → ℕ) (s : Set) → ((k : ℕ) → k < 12 → last k ≡ lastBelow 23 s k) → (k : ℕ) → k < 12
+    → neighboursIn last k ≡ neighboursAt (present s) (lastBelow 23 s) k
+neighbours-same last s h k b =
+    let there : (c : ℕ) → c < 12 → ltb (last c) 23 ≡ present s c =
+    λ c l. ap (λ (x : ℕ). ltb x 23) (h c l) ∙ last-present 23 s c (omega arith) in
     let d = (k + 1) % 12 in
     let e = (k + 2) % 12 in
-    ap (λ (x : ℕ). three x (f d) (f e)) (h k b) ∙ ap (λ (x : ℕ). three (g k) x (f e)) (h d (omega arith)) ∙ ap (λ (x : ℕ). three (g k) (g d) x) (h e (omega arith))
+    let u : d < 12 = omega arith in
+    let v : e < 12 = omega arith in
+    λ i. only (there k b i && (there d u i && there e v i)) (ThreeConsecutiveSemitones (h k b i) (h d u i) (h e v i))
 
-pub semitones-same : (last : ℕ → ℕ) (s : Set) → ((k : ℕ) → k < 12 → last k ≡ lastBelow 23 s k) → allFrom (neighboursAt last) 12 0 ≡ semitoneErrors s
+pub semitones-same : (last : ℕ → ℕ) (s : Set) → ((k : ℕ) → k < 12 → last k ≡ lastBelow 23 s k)
+    → allFrom (neighboursIn last) 12 0 ≡ semitoneErrors s
 unfolding semitoneErrors
-semitones-same last s h = all-same (neighboursAt last) (neighboursAt (lastBelow 23 s)) 12 0 (λ k b. neighbours-same last (lastBelow 23 s) h k (omega arith))
+semitones-same last s h =
+    all-same (neighboursIn last) (neighboursAt (present s) (lastBelow 23 s)) 12 0 (λ k b. neighbours-same last s h k (omega arith))

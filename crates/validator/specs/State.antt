@@ -3,8 +3,10 @@ use mathlib.Core.Bool.{Bool, true, false}
 use mathlib.Core.List.{List, [], _++_}
 use mathlib.Core.Path.{_≡_}
 use Prim.Native.Nat.{ℕ, _+_, _*_}
+use lib.Dec.{ltb}
 use lib.ListN.{length, take, drop, getD}
 use Rattle.expression.specs.ParserError.{numbersOf}
+use Rattle.validator.specs.Validator.{neighboursAt}
 use Rattle.validator.specs.declared.expressions.Counts.{Counts}
 use Rattle.validator.specs.declared.fault.Fault.the-variants as fault
 use Rattle.validator.specs.declared.fault.Fault.{Fault}
@@ -26,6 +28,10 @@ countsOf c p = getD (c .of) p 0
 -- the last interval of a class
 unfoldable pub lastsOf : Lasts → ℕ → ℕ
 lastsOf l c = getD (l .of) c 0
+
+-- the error of the class c and the next two, by the last interval of each; 23 is none
+abbrev pub neighboursIn : (ℕ → ℕ) → ℕ → List ℕ
+neighboursIn last = neighboursAt (λ c. ltb (last c) 23) last
 
 -- the first n errors became the first r, with `more` behind them, and the rest of the list is untouched
 pub record Wrote (n r : ℕ) (more : List ℕ) (es es′ : List ℕ) : Type 0 where

@@ -146,21 +146,30 @@ conflictAt s i = only (s (getD reported i 0) && s (getD others i 0)) (Inconsiste
 abbrev pub extensionErrors : List Exp → Set → List ℕ
 extensionErrors l s = orElse (extensionFault empty l) (allFrom (conflictAt s) 8 0)
 
--- `validate_semitones`: the last interval below n that is in the set and in the class c of semitones; 23 where there is none
+-- `validate_semitones`: is an interval below n in the set and in the class c of semitones?
+abbrev pub presentBelow : ℕ → Set → ℕ → Bool
+presentBelow zero s c = false
+presentBelow (suc n) s c = (s n && eqb (semitones n % 12) c) || presentBelow n s c
+
+-- is the class c present in the set?
+abbrev pub present : Set → ℕ → Bool
+present s = presentBelow 23 s
+
+-- are the class c and the next two there, going round from 11 to 0?
+abbrev pub three : (ℕ → Bool) → ℕ → Bool
+three there c = there c && (there ((c + 1) % 12) && there ((c + 2) % 12))
+
+-- the last interval below n that is in the set and in the class c; 23 where there is none
 unfoldable pub lastBelow : ℕ → Set → ℕ → ℕ
 lastBelow zero s c = 23
 lastBelow (suc n) s c = cond (s n && eqb (semitones n % 12) c) n (lastBelow n s c)
 
--- three intervals, if there are three
-abbrev pub three : ℕ → ℕ → ℕ → List ℕ
-three a b c = only (ltb a 23 && (ltb b 23 && ltb c 23)) (ThreeConsecutiveSemitones a b c)
-
--- the class c and the next two, going round from 11 to 0
-abbrev pub neighboursAt : (ℕ → ℕ) → ℕ → List ℕ
-neighboursAt last c = three (last c) (last ((c + 1) % 12)) (last ((c + 2) % 12))
+-- where three are there, kind 10 with the last interval of each
+abbrev pub neighboursAt : (ℕ → Bool) → (ℕ → ℕ) → ℕ → List ℕ
+neighboursAt there last c = only (three there c) (ThreeConsecutiveSemitones (last c) (last ((c + 1) % 12)) (last ((c + 2) % 12)))
 
 unfoldable pub semitoneErrors : Set → List ℕ
-semitoneErrors s = allFrom (neighboursAt (lastBelow 23 s)) 12 0
+semitoneErrors s = allFrom (neighboursAt (present s) (lastBelow 23 s)) 12 0
 
 -- is nothing in the list?
 abbrev pub isNil : List ℕ → Bool

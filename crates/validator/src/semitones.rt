@@ -6,8 +6,9 @@ ghost use lib.Dec.{ltb};
 ghost use lib.ListN.{getD, length};
 ghost use Rattle.chord.specs.Chord.{members};
 ghost use Rattle.chord.specs.Interval.{semitones};
-ghost use Rattle.validator.specs.State.{errorOf, lastsOf, Wrote};
-ghost use Rattle.validator.specs.Validator.{lastBelow, three, neighboursAt, isNil, semitoneErrors};
+ghost use Rattle.expression.specs.declared.parser_error.ParserError.the-variants.{ThreeConsecutiveSemitones};
+ghost use Rattle.validator.specs.State.{errorOf, lastsOf, neighboursIn, Wrote};
+ghost use Rattle.validator.specs.Validator.{only, lastBelow, isNil, semitoneErrors};
 use crate::fault::Fault;
 use crate::fault::fault_if;
 use crate::fault::push;
@@ -67,7 +68,7 @@ fn are_three(a: u8, b: u8, c: u8) -> bool
 }
 
 fn fault_of_three(a: u8, b: u8, c: u8) -> Fault
-    ensures { λ r. ⌜ errorOf r ≡ three a b c ⌝ }
+    ensures { λ r. ⌜ errorOf r ≡ only (ltb a 23 && (ltb b 23 && ltb c 23)) (ThreeConsecutiveSemitones a b c) ⌝ }
 {
     fault_if(
         are_three(a, b, c),
@@ -78,7 +79,7 @@ fn fault_of_three(a: u8, b: u8, c: u8) -> Fault
 // The class c and the next two, in the array of the last intervals.
 fn neighbours_at(lasts: &[u8; 12], c: usize) -> Fault
     requires { ⌜ c < 12 ⌝ }
-    ensures { λ r. ⌜ errorOf r ≡ neighboursAt (λ k. getD (now (lasts .entry)) k 0) c ⌝ }
+    ensures { λ r. ⌜ errorOf r ≡ neighboursIn (λ k. getD (now (lasts .entry)) k 0) c ⌝ }
 {
     let d = (c + 1) % 12;
     let e = (c + 2) % 12;
