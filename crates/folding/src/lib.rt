@@ -1,8 +1,8 @@
 // Folding of tokens in three lent arrays, in place.
 ghost use mathlib.Core.Path.{_≡_};
 ghost use Prim.Native.Nat.{ℕ, _+_, _^_, _<_, _≤_, min};
-ghost use lib.ListN.{length, set, take, drop};
-ghost use Rattle.token.specs.Token.{Token, token, rows, Room, at as tokenAt};
+ghost use lib.ListN.{length, set, take};
+ghost use Rattle.token.specs.Token.{rows, Room, Untouched, at as tokenAt};
 ghost use Rattle.folding.specs.Folding.{paired, fold7, count, isMaj, concat, preProcess};
 ghost use Rattle.folding.specs.State.{Latest, Joined, Apart, Counted, partnerCame, sevenCame, Stepped, Turned, joinsAt, Took, Short};
 
@@ -220,11 +220,13 @@ fn concat_maj7(kinds: &mut [u8], poss: &mut [u16], lens: &mut [u16], n: usize) -
     w
 }
 
-// Makes of the lexer's n tokens those that the parser reads; their number is returned. Without a 7 nothing changes.
+// Makes of the lexer's n tokens those that the parser reads; their number is returned. Without a 7 nothing changes. What lies between the
+// new count and the old one is free; what lies behind the old one is untouched, in each of the three arrays.
 pub fn pre_process(kinds: &mut [u8], poss: &mut [u16], lens: &mut [u16], n: usize) -> usize
     requires { ⌜ Room n (now kinds) (now poss) (now lens) × Short n (rows (now kinds) (now poss) (now lens)) ⌝ }
     ensures { λ e. ⌜ (e ≤ n) × (take e (rows (now (kinds .exit)) (now (poss .exit)) (now (lens .exit))) ≡ preProcess (take n (rows (now (kinds .entry)) (now (poss .entry)) (now (lens .entry))))) ⌝ }
-    ensures { λ _. ⌜ drop n (rows (now (kinds .exit)) (now (poss .exit)) (now (lens .exit))) ≡ drop n (rows (now (kinds .entry)) (now (poss .entry)) (now (lens .entry))) ⌝ }
+    ensures { λ _. ⌜ Untouched n (now (kinds .entry)) (now (poss .entry)) (now (lens .entry))
+        (now (kinds .exit)) (now (poss .exit)) (now (lens .exit)) ⌝ }
 {
     if latest(kinds, n, SEVEN) == 0 {
         return n;

@@ -3,7 +3,7 @@ ghost use mathlib.Core.List.{[], map};
 ghost use mathlib.Core.Path.{_≡_};
 ghost use Prim.Native.Nat.{_+_, _<_, _≤_};
 ghost use lib.ListN.{length, getD, drop};
-ghost use Rattle.token.specs.Token.{token as tokenOf, rows, Room};
+ghost use Rattle.token.specs.Token.{token as tokenOf, rows, Room, Untouched};
 ghost use Rattle.utf8.specs.Utf8.{begins};
 ghost use Rattle.lexer.specs.Words.{words as wordList, better as betterOf, longest as longestOf};
 ghost use Rattle.lexer.specs.Lexer.{isLetter, isDigit, signOf, signHead, wordHead, elem, twoDigits, oneDigit, numberHead, digitAt, headBy, headOf, sizeOf, lex};
@@ -562,11 +562,13 @@ fn scan_to_end(
     n + 1
 }
 
-// Writes the tokens of a text of at most 256 bytes; their number is returned. What lies beyond them is untouched. The word list is named
-// here, once, and lent.
+// Writes the tokens of a text of at most 256 bytes; their number is returned. What lies beyond them is untouched, in each of the three
+// arrays. The word list is named here, once, and lent.
 pub fn scan_tokens(text: &[u8], kinds: &mut [u8], poss: &mut [u16], lens: &mut [u16]) -> usize
     requires { ⌜ (length (now text) ≤ 256) × Room (length (now text) + 1) (now kinds) (now poss) (now lens) ⌝ }
     ensures { λ r. ⌜ Scanned (now (text .entry)) r (rows (now (kinds .entry)) (now (poss .entry)) (now (lens .entry))) (rows (now (kinds .exit)) (now (poss .exit)) (now (lens .exit))) ⌝ }
+    ensures { λ r. ⌜ Untouched r (now (kinds .entry)) (now (poss .entry)) (now (lens .entry))
+        (now (kinds .exit)) (now (poss .exit)) (now (lens .exit)) ⌝ }
 {
     let words = WORDS;
     let infos = INFOS;

@@ -84,6 +84,6 @@ rows-take (suc n) (k ∷ ks) (p ∷ ps) (l ∷ ls) = ap (λ (r : List Token). to
 pub tokens-first : (n : ℕ) (ks ps ls : List ℕ) → n ≤ 257 → Room n ks ps ls → Ranged 1000 1000 (take n (rows ks ps ls)) → Tokens (take n ks) (take n ps) (take n ls)
 tokens-first n ks ps ls h room r =
     let a = length-take-le n ks (room .kinds) in
-    let b = length-take-le n ps (room .poss) in
-    let c = length-take-le n ls (room .lens) in
+    let b = length-take-le n ps (omega (arith, room .kinds, room .poss)) in
+    let c = length-take-le n ls (omega (arith, room .kinds, room .lens)) in
     record { few = omega (arith, a); poss = b ∙ sym a; lens = c ∙ sym a; ranged = subst (Ranged 1000 1000) (sym (rows-take n ks ps ls)) r }

@@ -1,9 +1,10 @@
 -- Tokens, their types and the numbers of these, and the list of tokens that three parallel arrays hold.
 use mathlib.Core.Bool.{cond}
 use mathlib.Core.List.{List, [], _∷_}
+use mathlib.Core.Path.{_≡_}
 use Prim.Native.Nat.{ℕ, _+_, _-_, _≤_}
 use lib.Dec.{ltb}
-use lib.ListN.{length, getD}
+use lib.ListN.{length, getD, drop}
 use Rattle.chord.specs.Note.{letterNumber, letterOf}
 use Rattle.token.specs.declared.TokenType.the-variants.{Note, Sharp, Flat, Aug, Dim, Dim7, HalfDim, Extension, Add, Omit, Alt, Sus, Minor, Hyphen, Maj, Maj7, Slash, LParent, RParent, Comma, Bass, Illegal, Eof}
 use Rattle.token.specs.declared.TokenType.{TokenType}
@@ -66,11 +67,17 @@ rows (k ∷ ks) [] ls = []
 rows (k ∷ ks) (p ∷ ps) [] = []
 rows (k ∷ ks) (p ∷ ps) (l ∷ ls) = token k p l ∷ rows ks ps ls
 
--- the arrays have room for n tokens
+-- the arrays have one length, and room for n tokens
 pub record Room (n : ℕ) (ks ps ls : List ℕ) : Type 0 where
   pub kinds : n ≤ length ks
-  pub poss : n ≤ length ps
-  pub lens : n ≤ length ls
+  pub poss : length ps ≡ length ks
+  pub lens : length ls ≡ length ks
+
+-- from place n on each of the three arrays is as it was
+pub record Untouched (n : ℕ) (ks ps ls ks′ ps′ ls′ : List ℕ) : Type 0 where
+  pub kinds : drop n ks′ ≡ drop n ks
+  pub poss : drop n ps′ ≡ drop n ps
+  pub lens : drop n ls′ ≡ drop n ls
 
 abbrev pub at : List Token → ℕ → Token
 at ts i = getD ts i (token 0 0 0)

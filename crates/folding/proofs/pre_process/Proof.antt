@@ -1,4 +1,5 @@
--- Where there is no 7 the tokens stay as they are; else the three turns, one after the other.
+-- Where there is no 7 the tokens stay as they are; else the three turns, one after the other; rows that are untouched behind the old count
+-- are arrays that are.
 use mathlib.Core.Path.{refl, sym}
 use native.Mathlib.Omega.{arith}
 use lib.ListN.{take}
@@ -9,6 +10,7 @@ use Rattle.folding.proofs.Places.{latest-none}
 use Rattle.folding.proofs.Wholes.{all-turns}
 use Rattle.folding.proofs.pre_process.Statement.{statement}
 use Rattle.folding.proofs.pre_process.Tie as tie
+use Rattle.token.proofs.Rows.{untouched-rows}
 
 latest-requires : tie.Need-latest-requires
 latest-requires c κs = search needs
@@ -21,7 +23,7 @@ returns c =
     let s = c .before .before .before .before .before .before in
     let a = s .args in
     let z = latest-none (a .kinds .now) (a .poss .now) (a .lens .now) (a .n) (s .pre .0) (c .before .latest .ensures) (c .if1 .taken) in
-    ((omega arith, sym (no-seven (take (a .n) (rows (a .kinds .now) (a .poss .now) (a .lens .now))) z)), refl)
+    ((omega arith, sym (no-seven (take (a .n) (rows (a .kinds .now) (a .poss .now) (a .lens .now))) z)), record { kinds = refl; poss = refl; lens = refl })
 
 concat-maj7-requires : tie.Need-concat-maj7-requires
 concat-maj7-requires c κs = search needs
@@ -42,7 +44,13 @@ same-length-4 : tie.Need-same-length-4
 same-length-4 c = search needs
 
 returns-2 : tie.Need-returns-2
-returns-2 c = all-turns (c .before .before .before .before .before .before .before .before .before .before .before .before .before .before .before .before .before .before .before .before .before .before .before .before .before .before .concat-maj7 .ensures) (c .before .before .before .before .before .before .before .before .before .before .before .before .before .before .before .before .fold-7 .ensures) (c .before .before .before .before .before .before .fold-72 .ensures)
+returns-2 c =
+    let s = c .before .before .before .before .before .before .before .before .before .before .before .before .before .before .before .before .before .before .before .before .before .before .before .before .before .before .before .before .before .before .before .before .before .before .before .before in
+    let x = c .before .before .before .before .before .before .before .before .before .before .before .before .before .before .before .before .before .before .before .before .before .before .before .before .before .before .concat-maj7 in
+    let y = c .before .before .before .before .before .before .before .before .before .before .before .before .before .before .before .before .fold-7 in
+    let z = c .before .before .before .before .before .before .fold-72 in
+    let t = all-turns (x .ensures) (y .ensures) (z .ensures) in
+    (t .0, untouched-rows (omega (arith, s .pre .0)) (omega (arith, s .pre .0, x .kept, y .kept, z .kept)) (s .args .n) (t .1))
 
 pub pre-process-spec : {M : Type 1} → statement M
 pre-process-spec =

@@ -38,7 +38,7 @@ slice-aggregate-pre-process-3 : tie.Need-slice-aggregate-pre-process-3
 slice-aggregate-pre-process-3 c = search needs
 
 pre-process-requires : tie.Need-pre-process-requires
-pre-process-requires c κs = (omega (arith, c .before .before .before .before .before .before .scan-tokens .ensures .few), λ j h. le-trans (scanned-short (c .before .before .before .before .before .before .scan-tokens .ensures) j h) (omega arith))
+pre-process-requires c κs = (omega (arith, c .before .before .before .before .before .before .scan-tokens .ensures .0 .few), λ j h. le-trans (scanned-short (c .before .before .before .before .before .before .scan-tokens .ensures .0) j h) (omega arith))
 
 array-share-prefix-kinds : tie.Need-array-share-prefix-kinds
 array-share-prefix-kinds c = search needs
@@ -68,11 +68,11 @@ parse-requires : tie.Need-parse-requires
 parse-requires c κs =
     let text = c .before .before .before .before .before .before .before .before .before .before .before .before .before .before .before .before .before .before .before .before .before .args .text .now in
     let scan = c .before .before .before .before .before .before .before .before .before .before .before .before .before .before .before .scan-tokens in
-    let scanned = scan .ensures in
+    let scanned = scan .ensures .0 in
     let tokens = take (scan .result) (rows (scan .last .1 .0) (scan .last .1 .1 .0) (scan .last .1 .1 .1 .0)) in
     let folded = c .before .before .before .before .before .before .before .before .pre-process in
     let wide = pre-process-ranged (length text + 1) (length text) tokens (scanned .ranged) in (
-      tokens-first (folded .result) (folded .last .0) (folded .last .1 .0) (folded .last .1 .1 .0) (omega (arith, folded .ensures .0 .0, scanned .few, c .before .before .before .before .before .before .before .before .before .before .before .before .before .before .before .before .before .before .before .before .before .pre)) (record { kinds = omega (arith, folded .ensures .0 .0, scanned .few, c .before .before .before .before .before .before .before .before .before .before .before .before .before .before .before .before .before .before .before .before .before .pre, folded .kept); poss = omega (arith, folded .ensures .0 .0, scanned .few, c .before .before .before .before .before .before .before .before .before .before .before .before .before .before .before .before .before .before .before .before .before .pre, folded .kept); lens = omega (arith, folded .ensures .0 .0, scanned .few, c .before .before .before .before .before .before .before .before .before .before .before .before .before .before .before .before .before .before .before .before .before .pre, folded .kept) })
+      tokens-first (folded .result) (folded .last .0) (folded .last .1 .0) (folded .last .1 .1 .0) (omega (arith, folded .ensures .0 .0, scanned .few, c .before .before .before .before .before .before .before .before .before .before .before .before .before .before .before .before .before .before .before .before .before .pre)) (omega (arith, folded .ensures .0 .0, scanned .few, c .before .before .before .before .before .before .before .before .before .before .before .before .before .before .before .before .before .before .before .before .before .pre, folded .kept))
           (subst (Ranged 1000 1000) (sym (folded .ensures .0 .1)) (ranged-wider (length text + 1) (length text + length text) 1000 1000 (preProcess tokens) (omega (arith, c .before .before .before .before .before .before .before .before .before .before .before .before .before .before .before .before .before .before .before .before .before .pre)) (omega (arith, c .before .before .before .before .before .before .before .before .before .before .before .before .before .before .before .before .before .before .before .before .before .pre)) wide)),
       record { errs = search needs; exps = search needs },
     )

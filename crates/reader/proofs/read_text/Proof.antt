@@ -5,6 +5,7 @@ use Rattle.reader.proofs.read_text.Statement.{statement}
 use borrow.Author.Needs.{needs}
 use lib.Seq.{length-take-le}
 use mathlib.Core.Path.{_∙_, _≡_, sym}
+use native.Mathlib.Omega.{arith}
 use Rattle.reader.proofs.read_text.Tie as tie
 
 slice-aggregate-tokenize : tie.Need-slice-aggregate-tokenize
@@ -29,13 +30,13 @@ array-share-prefix-poss : tie.Need-array-share-prefix-poss
 array-share-prefix-poss c = search needs
 
 slice-aggregate-parse-2 : tie.Need-slice-aggregate-parse-2
-slice-aggregate-parse-2 c = sym (length-take-le _ _ (c .before .before .before .before .before .tokenize .ensures .room .poss))
+slice-aggregate-parse-2 c = sym (length-take-le _ _ (omega (arith, c .before .before .before .before .before .tokenize .ensures .room)))
 
 array-share-prefix-lens : tie.Need-array-share-prefix-lens
 array-share-prefix-lens c = search needs
 
 slice-aggregate-parse-3 : tie.Need-slice-aggregate-parse-3
-slice-aggregate-parse-3 c = sym (length-take-le _ _ (c .before .before .before .before .before .before .tokenize .ensures .room .lens))
+slice-aggregate-parse-3 c = sym (length-take-le _ _ (omega (arith, c .before .before .before .before .before .before .tokenize .ensures .room)))
 
 parse-requires : tie.Need-parse-requires
 parse-requires c κs = let t = c .before .before .before .before .before .before .before .tokenize in (tokens-first (t .result) (t .last .1 .0) (t .last .1 .1 .0) (t .last .1 .1 .1 .0) (t .ensures .few) (t .ensures .room) (t .ensures .ranged), c .before .before .before .before .before .before .before .before .before .before .before .before .before .pre .1)

@@ -17,7 +17,10 @@ scan-tokens-requires : tie.Need-scan-tokens-requires
 scan-tokens-requires c κs = search needs
 
 pre-process-requires : tie.Need-pre-process-requires
-pre-process-requires c κs = (omega (arith, c .before .before .before .before .before .before .before .before .before .before .before .before .before .before .before .before .before .pre .0, c .before .before .before .before .before .before .before .before .before .before .before .before .before .before .before .before .before .pre .1, c .before .before .before .before .before .before .before .before .before .scan-tokens .ensures .few, c .before .before .before .before .before .before .before .before .before .scan-tokens .kept), λ j h. le-trans (scanned-short (c .before .before .before .before .before .before .before .before .before .scan-tokens .ensures) j h) (omega (arith, c .before .before .before .before .before .before .before .before .before .before .before .before .before .before .before .before .before .pre .0)))
+pre-process-requires c κs =
+    let p = c .before .before .before .before .before .before .before .before .before .before .before .before .before .before .before .before .before .pre in
+    let scan = c .before .before .before .before .before .before .before .before .before .scan-tokens in
+    (omega (arith, p .0, p .1, scan .ensures .0 .few, scan .kept), λ j h. le-trans (scanned-short (scan .ensures .0) j h) (omega (arith, p .0)))
 
 same-length : tie.Need-same-length
 same-length c = search needs
@@ -36,11 +39,11 @@ returns c =
     let fold = c .before .before .before .before .before .before .pre-process in
     let text = a .text .now in
     let ts = take (scan .result) (rows (scan .last .1 .0) (scan .last .1 .1 .0) (scan .last .1 .1 .1 .0)) in
-    let wide = pre-process-ranged (length text + 1) (length text) ts (scan .ensures .ranged) in
+    let wide = pre-process-ranged (length text + 1) (length text) ts (scan .ensures .0 .ranged) in
     record {
-      few = omega (arith, fold .ensures .0 .0, scan .ensures .few, s .pre .0);
-      room = record { kinds = omega (arith, fold .ensures .0 .0, scan .ensures .few, s .pre .1, fold .kept, scan .kept); poss = omega (arith, fold .ensures .0 .0, scan .ensures .few, s .pre .1, fold .kept, scan .kept); lens = omega (arith, fold .ensures .0 .0, scan .ensures .few, s .pre .1, fold .kept, scan .kept) };
-      list = fold .ensures .0 .1 ∙ ap preProcess (scan .ensures .written .list);
+      few = omega (arith, fold .ensures .0 .0, scan .ensures .0 .few, s .pre .0);
+      room = omega (arith, fold .ensures .0 .0, scan .ensures .0 .few, s .pre .1, fold .kept, scan .kept);
+      list = fold .ensures .0 .1 ∙ ap preProcess (scan .ensures .0 .written .list);
       ranged = subst (Ranged 1000 1000) (sym (fold .ensures .0 .1)) (ranged-wider (length text + 1) (length text + length text) 1000 1000 (preProcess ts) (omega (arith, s .pre .0)) (omega (arith, s .pre .0)) wide);
     }
 
