@@ -1,33 +1,91 @@
--- What a text begins with: digits read from the whole text or from the part that begins there, and how many bytes a head has.
+-- What a text begins with: a digit goes by one byte, since every digit is a byte below 128 and a character that begins with another byte is
+-- 128 or more; and how many bytes a head has.
 -- Assumes nothing.
 use mathlib.Core.Bool.{Bool, true, false, _&&_, cond}
-use mathlib.Core.List.{List, [], _∷_}
+use mathlib.Core.List.{List, [], _∷_, _++_}
 use mathlib.Core.Path.{_≡_, refl, sym, ap, _∙_, subst}
 use Prim.Native.Nat.{ℕ, suc, _+_, _*_, _-_, _≤_, _<_}
-use native.Mathlib.Nat.{add-zero}
+use native.Mathlib.Decide.{decLe}
 use native.Mathlib.Omega.{arith}
 use lib.Dec.{T, eqb, ltb}
-use lib.ListN.{length, getD, drop, List·getD-eq-default}
-use lib.Seq.{getD-drop}
-use borrow.Author.Tests.{ne-eqb, eqb-false, ltb-true, ltb-false}
-use Rattle.utf8.specs.Utf8.{charOf, begins}
+use lib.ListN.{length, getD, drop, length-drop}
+use lib.Seq.{drop-cons}
+use borrow.Author.Tests.{le-leb, lt-leb, lt-ltb, le-ltb, ne-eqb, eqb-false}
+use Rattle.utf8.specs.Utf8.{charAt, charOf, begins}
 use Rattle.utf8.specs.declared.Found.the-variants as utf8
 use Rattle.utf8.specs.declared.Found.{Found}
-use Rattle.lexer.specs.Lexer.{isLetter, isDigit, elem, twoDigits, oneDigit, digitAt, numberHead, wordHead, signHead, signOf, headBy, headOf, sizeOf}
+use Rattle.lexer.specs.Lexer.{isLetter, isDigit, digitOf, elem, twoDigits, oneDigit, digitIn, numberHead, numberBy, wordHead, signHead, signOf, headBy, headOf, sizeOf}
 use Rattle.lexer.specs.Words.{Word, match, words, better, longestOf, longest}
 use Rattle.lexer.specs.declared.Head.the-variants as head
 use Rattle.lexer.specs.declared.Head.{Head}
 use Rattle.lexer.specs.declared.Match.{Match}
-use Rattle.utf8.proofs.Laws.{found-size, found-within}
+use Rattle.utf8.proofs.Laws.{Row, one, two, three, four, row, Encoded, charOf-sound, one-found, found-size, found-within}
 
-abbrev digit : ℕ → ℕ
-digit b = cond (isDigit b) (b - 48) 10
+-- no character from 58 on is a digit
+digit-high : (c : ℕ) → 58 ≤ c → digitOf c ≡ 10
+digit-high c h = rw (le-leb 48 c (omega arith), lt-leb c 57 h)
 
-pub digit-here : (text : List ℕ) (at : ℕ) → digitAt (drop at text) 0 ≡ digitAt text at
-digit-here text at = ap digit (getD-drop at text 0 0 ∙ ap (λ i. getD text i 0) (add-zero at))
+-- a character that begins with a byte from 128 on is 128 or more
+found-high : (s : List ℕ) (c n : ℕ) → charOf s ≡ utf8.Char c n → 128 ≤ getD s 0 0 → 128 ≤ c
+found-high s c n e h = go (row c)
+  where
+    go : Row c → 128 ≤ c
+    go (one l p) =
+        let b = charOf-sound s c n e .bytes ∙ ap (λ (t : List ℕ). t ++ drop n s) p in
+        let z : getD s 0 0 ≡ c = ap (λ (t : List ℕ). getD t 0 0) b in
+        omega arith
+    go (two l g p) = l
+    go (three l g p) = omega arith
+    go (four l p) = omega arith
 
-pub digit-next : (text : List ℕ) (at : ℕ) → digitAt (drop at text) 1 ≡ digitAt text (at + 1)
-digit-next text at = ap digit (getD-drop at text 1 0)
+digit-first : (s : List ℕ) → 0 < length s → digitOf (getD s 0 0) ≡ digitIn (charOf s)
+digit-first s l = elim (decLe 128 (getD s 0 0)) [
+  | yes h ↦ digit-high (getD s 0 0) (omega arith) ∙ sym (high (charOf s) refl h)
+  | no h ↦ ap digitIn (sym (one-found s l (omega arith)))
+]
+  where
+    high : (f : Found) → charOf s ≡ f → 128 ≤ getD s 0 0 → digitIn f ≡ 10
+    high (utf8.Char c n) e h = digit-high c (omega (arith, found-high s c n e h))
+    high utf8.Bad e h = refl
+    high utf8.End e h = refl
+
+-- the digit that stands at a place, by the byte there
+pub digit-byte : (s : List ℕ) (i : ℕ) → i < length s → digitOf (getD s i 0) ≡ digitIn (charAt s i)
+digit-byte s i l =
+    digit-first (getD s i 0 ∷ drop (suc i) s) (omega arith) ∙ ap (λ (t : List ℕ). digitIn (charOf t)) (sym (drop-cons s i 0 l))
+
+-- a digit is below 10, and what is none is 10
+module _ (c : ℕ) {d : ℕ} (e : d ≡ digitOf c) where
+  pub is-digit : d < 10 → isDigit c ≡ true
+  unfolding isDigit
+  is-digit h = ap (λ x. ltb x 10) (sym e) ∙ lt-ltb d 10 h
+
+  pub no-digit : 10 ≤ d → isDigit c ≡ false
+  unfolding isDigit
+  no-digit h = ap (λ x. ltb x 10) (sym e) ∙ le-ltb d 10 h
+
+-- one digit alone makes no number of two, whatever bytes stand behind it
+lone : (d : ℕ) → elem (10 * d + 10) twoDigits ≡ false
+unfolding elem
+lone d = rw (ne-eqb (10 * d + 10) 11 (λ e. omega arith), ne-eqb (10 * d + 10) 13 (λ e. omega arith))
+
+lone-head : (d n m k : ℕ) → numberHead d n 10 m ≡ numberHead d n 10 k
+lone-head d n m k = rw (lone d)
+
+-- a digit behind the first one has one byte
+pub second-byte : (d n : ℕ) (s : List ℕ) → numberHead d n (digitIn (charOf s)) 1 ≡ numberBy d n (charOf s)
+second-byte d n s = go (charOf s) refl
+  where
+    by : (c m : ℕ) → Encoded s c m → Row c → numberHead d n (digitOf c) 1 ≡ numberHead d n (digitOf c) m
+    by c m f (one l p) = ap (numberHead d n (digitOf c)) (sym (f .size ∙ ap length p))
+    by c m f (two l g p) = rw (digit-high c (omega arith)) (lone-head d n 1 m)
+    by c m f (three l g p) = rw (digit-high c (omega arith)) (lone-head d n 1 m)
+    by c m f (four l p) = rw (digit-high c (omega arith)) (lone-head d n 1 m)
+
+    go : (f : Found) → charOf s ≡ f → numberHead d n (digitIn f) 1 ≡ numberBy d n f
+    go (utf8.Char c m) e = by c m (charOf-sound s c m e) (row c)
+    go utf8.Bad e = lone-head d n 1 0
+    go utf8.End e = lone-head d n 1 0
 
 begins-length : (p s : List ℕ) → begins p s ≡ true → length p ≤ length s
 begins-length [] s e = omega arith
@@ -51,60 +109,66 @@ unfolding longestOf
 longest-within [] s m h = h
 longest-within (w ∷ ws) s m h = longest-within ws s (better s w m) (better-within s w m h)
 
--- a head of a text that is not empty has a byte at least, and lies within the text
+-- the length of a head's token, 0 for none
+abbrev pub lengthOf : Head → ℕ
+lengthOf head.Space = 0
+lengthOf (head.Sign k n) = 1
+lengthOf (head.Word k n) = n
+lengthOf (head.Number k l n) = l
+lengthOf (head.Digit n) = 1
+
+-- a head of a text that is not empty has a byte at least, and lies within the text; its token is no longer than its bytes
 pub record Sized (h : Head) (s : List ℕ) : Type 0 where
   pub some : 1 ≤ sizeOf h
   pub within : sizeOf h ≤ length s
+  pub short : lengthOf h ≤ sizeOf h
 
 word-sized : (s : List ℕ) (m : Match) → 0 < length s → m .len ≤ length s → Sized (wordHead m) s
 word-sized s m l h = go (eqb (m .len) 0) refl
   where
     go : (b : Bool) → eqb (m .len) 0 ≡ b → Sized (cond b (head.Word 21 1) (head.Word (m .kind) (m .len))) s
-    go true e = record { some = omega arith; within = omega arith }
-    go false e = let n = eqb-false (m .len) 0 e in record { some = omega arith; within = h }
+    go true e = record { some = omega arith; within = omega arith; short = omega arith }
+    go false e = let n = eqb-false (m .len) 0 e in record { some = omega arith; within = h; short = omega arith }
 
 sign-sized : (s : List ℕ) (c n : ℕ) → 1 ≤ n → n ≤ length s → Sized (signHead c n) s
 sign-sized s c n l h = go (eqb (signOf c) 0)
   where
     go : (b : Bool) → Sized (cond b (head.Word 21 n) (head.Sign (signOf c) n)) s
-    go true = record { some = l; within = h }
-    go false = record { some = l; within = h }
+    go true = record { some = l; within = h; short = omega arith }
+    go false = record { some = l; within = h; short = l }
 
--- one digit alone makes no number of two
-lone : (d : ℕ) → elem (10 * d + 10) twoDigits ≡ false
-unfolding elem
-lone d = rw (ne-eqb (10 * d + 10) 11 (λ e. omega arith), ne-eqb (10 * d + 10) 13 (λ e. omega arith))
-
-number-sized : (s : List ℕ) → 0 < length s → Sized (numberHead (digitAt s 0) (digitAt s 1)) s
-unfolding isDigit
-number-sized s l = go (ltb 1 (length s)) refl
+number-sized : (s : List ℕ) (d n : ℕ) → 1 ≤ n → n ≤ length s → Sized (numberBy d n (charOf (drop n s))) s
+number-sized s d n l h = go (charOf (drop n s)) refl
   where
-    one : (d e : ℕ) (b : Bool) → elem (10 * d + e) twoDigits ≡ false → Sized (cond b (head.Number (32 + d) 1) head.Digit) s
-    one d e true f = record { some = omega arith; within = omega arith }
-    one d e false f = record { some = omega arith; within = omega arith }
+    one-digit : (b : Bool) → Sized (cond b (head.Number (32 + d) 1 n) (head.Digit n)) s
+    one-digit true = record { some = l; within = h; short = l }
+    one-digit false = record { some = l; within = h; short = l }
 
-    two : (d e : ℕ) (a b : Bool) → 1 < length s → Sized (cond a (head.Number (32 + (10 * d + e)) 2) (cond b (head.Number (32 + d) 1) head.Digit)) s
-    two d e true b h = record { some = omega arith; within = omega arith }
-    two d e false true h = record { some = omega arith; within = omega arith }
-    two d e false false h = record { some = omega arith; within = omega arith }
+    two-digits : (e m : ℕ) (a : Bool) → 1 ≤ m → n + m ≤ length s
+        → Sized (cond a (head.Number (32 + (10 * d + e)) 2 (n + m)) (cond (elem d oneDigit) (head.Number (32 + d) 1 n) (head.Digit n))) s
+    two-digits e m true k b = record { some = omega arith; within = b; short = omega arith }
+    two-digits e m false k b = one-digit (elem d oneDigit)
 
-    go : (t : Bool) → ltb 1 (length s) ≡ t → Sized (numberHead (digitAt s 0) (digitAt s 1)) s
-    go true e = two (digitAt s 0) (digitAt s 1) (elem (10 * digitAt s 0 + digitAt s 1) twoDigits) (elem (digitAt s 0) oneDigit) (ltb-true 1 (length s) e)
-    go false e =
-        let z : getD s 1 0 ≡ 0 = List·getD-eq-default s 0 (ltb-false 1 (length s) e) in
-        rw (z, lone (digitAt s 0)) (one (digitAt s 0) 10 (elem (digitAt s 0) oneDigit) (lone (digitAt s 0)))
+    go : (f : Found) → charOf (drop n s) ≡ f → Sized (numberBy d n f) s
+    go (utf8.Char c m) e =
+        let k : length (drop n s) ≡ length s - n = length-drop n s in
+        let w : m ≤ length (drop n s) = found-within (drop n s) c m e in
+        two-digits (digitOf c) m (elem (10 * d + digitOf c) twoDigits) (found-size (drop n s) c m e) (omega arith)
+    go utf8.Bad e = rw (lone d) (one-digit (elem d oneDigit))
+    go utf8.End e = rw (lone d) (one-digit (elem d oneDigit))
 
 pub head-sized : (s : List ℕ) → 0 < length s → Sized (headOf s) s
 unfolding headOf
 head-sized s l = go (charOf s) refl
   where
-    by : (a b c : Bool) (k n : ℕ) → 1 ≤ n → n ≤ length s → Sized (cond a (wordHead (longest s)) (cond b (numberHead (digitAt s 0) (digitAt s 1)) (cond c head.Space (signHead k n)))) s
+    by : (a b c : Bool) (k n : ℕ) → 1 ≤ n → n ≤ length s
+        → Sized (cond a (wordHead (longest s)) (cond b (numberBy (digitOf k) n (charOf (drop n s))) (cond c head.Space (signHead k n)))) s
     by true b c k n x y = word-sized s (longest s) l (longest-within words s (match 0 21) (omega arith))
-    by false true c k n x y = number-sized s l
-    by false false true k n x y = record { some = omega arith; within = l }
+    by false true c k n x y = number-sized s (digitOf k) n x y
+    by false false true k n x y = record { some = omega arith; within = l; short = omega arith }
     by false false false k n x y = sign-sized s k n x y
 
     go : (f : Found) → charOf s ≡ f → Sized (headBy f s) s
     go (utf8.Char c n) e = by (isLetter c) (isDigit c) (eqb c 32) c n (found-size s c n e) (found-within s c n e)
-    go utf8.Bad e = record { some = omega arith; within = l }
-    go utf8.End e = record { some = omega arith; within = l }
+    go utf8.Bad e = record { some = omega arith; within = l; short = omega arith }
+    go utf8.End e = record { some = omega arith; within = l; short = omega arith }

@@ -24,8 +24,8 @@ module _ (q l : ℕ) where
       ranged-append q l held (token k (p + n) 1 ∷ more (n - 1) []) r (omega (arith, z .within), omega (arith, z .some, z .within), f (n - 1) [] tt)
   emit-ranged (head.Word k n) s held p more z b w r f =
       ranged-append q l held (token k p n ∷ more (n - 1) []) r (omega arith, omega (arith, z .within), f (n - 1) [] tt)
-  emit-ranged (head.Number k n) s held p more z b w r f = (omega arith, omega (arith, z .within), f (n - 1) held r)
-  emit-ranged head.Digit s held p more z b w r f = f 0 (token 21 p 1 ∷ held) (omega arith, omega (arith, z .within), r)
+  emit-ranged (head.Number k t n) s held p more z b w r f = (omega arith, omega (arith, z .short, z .within), f (n - 1) held r)
+  emit-ranged (head.Digit n) s held p more z b w r f = f (n - 1) (token 21 p 1 ∷ held) (omega arith, omega (arith, z .short, z .within), r)
 
   lex-ranged : (s : List ℕ) (k : ℕ) (held : List Token) (p : ℕ) → p + length s ≤ q → length s ≤ l → Ranged q l held → Ranged q l (lex k held p s)
   unfolding lex

@@ -11,7 +11,7 @@ use lib.Dec.{T}
 use lib.ListN.{length, take, drop, set, length-append, drop-of-length-le, length-drop}
 use lib.Seq.{slice, slice-empty, drop-cons, drop-drop, take-take, take-at, drop-at, length-take-le, take-suc-set, drop-set-lt}
 use Rattle.token.specs.Token.{Token, token}
-use Rattle.lexer.specs.Lexer.{headOf, emit, lex, sizeOf}
+use Rattle.lexer.specs.Lexer.{headOf, emit, illegal, lex, sizeOf}
 use Rattle.lexer.specs.State.{planOf, whole, Few, Inserted, Emitted, Written, scan}
 use Rattle.lexer.specs.declared.Head.the-variants as head
 use Rattle.lexer.specs.declared.Head.{Head}
@@ -82,44 +82,45 @@ module _ (text : List ℕ) (s : Scan) (R R′ : List Token) (F : Few text s) (l 
       ∙ sym (before-step head.Space e)
   step-whole (head.Sign k n) e o b E = at-end (token k (s .at + n) 1) n o b (E .one refl) ∙ sym (before-step (head.Sign k n) e)
   step-whole (head.Word k n) e o b E = at-end (token k (s .at) n) n o b (E .one refl) ∙ sym (before-step (head.Word k n) e)
-  step-whole (head.Number k n) e o b E =
+  step-whole (head.Number k t n) e o b E =
       ap₂ (λ f h. f ++ lex 0 h (s .at + n) (drop (s .at + n) text)) (front-new (F .among) b (E .one refl)) (back (F .among) b (E .one refl))
-      ∙ append-assoc (take (s .held) R) (token k (s .at) n ∷ []) (lex 0 (slice (s .held) (s .count) R) (s .at + n) (drop (s .at + n) text))
-      ∙ ap (λ r. take (s .held) R ++ (token k (s .at) n ∷ r)) (sym (go-on text (s .at) n (slice (s .held) (s .count) R) o))
-      ∙ sym (before-step (head.Number k n) e)
-  step-whole head.Digit e o b E =
-      ap₂ (λ f h. f ++ lex 0 h (s .at + 1) (drop (s .at + 1) text)) (front (F .among) b (E .one refl)) (back-new (F .among) b (E .one refl))
-      ∙ sym (before-step head.Digit e)
+      ∙ append-assoc (take (s .held) R) (token k (s .at) t ∷ []) (lex 0 (slice (s .held) (s .count) R) (s .at + n) (drop (s .at + n) text))
+      ∙ ap (λ r. take (s .held) R ++ (token k (s .at) t ∷ r)) (sym (go-on text (s .at) n (slice (s .held) (s .count) R) o))
+      ∙ sym (before-step (head.Number k t n) e)
+  step-whole (head.Digit n) e o b E =
+      ap₂ (λ f h. f ++ lex 0 h (s .at + n) (drop (s .at + n) text)) (front (F .among) b (E .one refl)) (back-new (F .among) b (E .one refl))
+      ∙ ap (λ r. take (s .held) R ++ r) (sym (go-on text (s .at) n (token illegal (s .at) 1 ∷ slice (s .held) (s .count) R) o))
+      ∙ sym (before-step (head.Digit n) e)
 
   -- there is still one token a byte at most
   pub step-few : (h : Head) → 1 ≤ sizeOf h → s .at + sizeOf h ≤ length text → Few text (planOf h s .next)
   step-few head.Space o w = record { among = omega arith; some = omega (arith, F .some); within = w }
   step-few (head.Sign k n) o w = record { among = omega arith; some = omega (arith, F .some); within = w }
   step-few (head.Word k n) o w = record { among = omega arith; some = omega (arith, F .some); within = w }
-  step-few (head.Number k n) o w = record { among = omega (arith, F .among); some = omega (arith, F .some); within = w }
-  step-few head.Digit o w = record { among = omega (arith, F .among); some = omega (arith, F .some); within = w }
+  step-few (head.Number k t n) o w = record { among = omega (arith, F .among); some = omega (arith, F .some); within = w }
+  step-few (head.Digit n) o w = record { among = omega (arith, F .among); some = omega (arith, F .some); within = w }
 
   -- the place moves on, and what lies beyond the tokens is untouched
   pub step-far : (h : Head) → 1 ≤ sizeOf h → s .at < planOf h s .next .at
   step-far head.Space o = omega arith
   step-far (head.Sign k n) o = omega arith
   step-far (head.Word k n) o = omega arith
-  step-far (head.Number k n) o = omega arith
-  step-far head.Digit o = omega arith
+  step-far (head.Number k t n) o = omega arith
+  step-far (head.Digit n) o = omega arith
 
   pub step-rest : (h : Head) → Emitted h s (planOf h s .next) R R′ → drop (planOf h s .next .count) R′ ≡ drop (planOf h s .next .count) R
   step-rest head.Space E = ap (drop (s .count)) (E .none refl)
   step-rest (head.Sign k n) E = E .one refl .rest
   step-rest (head.Word k n) E = E .one refl .rest
-  step-rest (head.Number k n) E = E .one refl .rest
-  step-rest head.Digit E = E .one refl .rest
+  step-rest (head.Number k t n) E = E .one refl .rest
+  step-rest (head.Digit n) E = E .one refl .rest
 
   pub step-count : (h : Head) → s .count ≤ planOf h s .next .count
   step-count head.Space = omega arith
   step-count (head.Sign k n) = omega arith
   step-count (head.Word k n) = omega arith
-  step-count (head.Number k n) = omega arith
-  step-count head.Digit = omega arith
+  step-count (head.Number k t n) = omega arith
+  step-count (head.Digit n) = omega arith
 
 -- what the loop keeps true of the tokens R, where they were R₀ at first
 pub record Walked (text : List ℕ) (s : Scan) (R₀ R : List Token) : Type 0 where
@@ -170,8 +171,8 @@ pub place-low : (h : Head) (s : Scan) → s .held ≤ s .count → planOf h s .p
 place-low head.Space s h = omega arith
 place-low (head.Sign k n) s h = omega arith
 place-low (head.Word k n) s h = omega arith
-place-low (head.Number k n) s h = h
-place-low head.Digit s h = h
+place-low (head.Number k t n) s h = h
+place-low (head.Digit n) s h = h
 
 -- one more token behind those that were written
 pub written-more : {ts : List Token} {n : ℕ} {R₀ R R′ : List Token} (t : Token) → n + 1 ≤ length R → Written ts n R₀ R → R′ ≡ set R n t → Written (ts ++ (t ∷ [])) (n + 1) R₀ R′

@@ -2,8 +2,8 @@
 use mathlib.Core.Bool.{Bool, false, _&&_, _||_, cond}
 use mathlib.Core.List.{List, [], _∷_, _++_}
 use Prim.Native.Nat.{ℕ, zero, suc, _+_, _-_, _*_}
-use lib.Dec.{eqb, leb}
-use lib.ListN.{length, getD}
+use lib.Dec.{eqb, leb, ltb}
+use lib.ListN.{length, drop}
 use Rattle.token.specs.Token.{Token, token, numberOf}
 use Rattle.token.specs.declared.TokenType.the-variants.{Sharp, Flat, Aug, Dim, HalfDim, Extension, Hyphen, Maj7, Slash, LParent, RParent, Comma, Illegal, Eof}
 use Rattle.utf8.specs.Utf8.{charOf}
@@ -20,8 +20,12 @@ illegal = numberOf Illegal
 unfoldable pub isLetter : ℕ → Bool
 isLetter c = leb 65 c && leb c 90 || leb 97 c && leb c 122
 
+-- the digit that a character is, 0 to 9; 10 for a character that is no digit
+abbrev pub digitOf : ℕ → ℕ
+digitOf c = cond (leb 48 c && leb c 57) (c - 48) 10
+
 unfoldable pub isDigit : ℕ → Bool
-isDigit c = leb 48 c && leb c 57
+isDigit c = ltb (digitOf c) 10
 
 unfoldable pub elem : ℕ → List ℕ → Bool
 elem x [] = false
@@ -52,28 +56,40 @@ signHead c n = cond (eqb (signOf c) 0) (Word illegal n) (Sign (signOf c) n)
 abbrev pub wordHead : Match → Head
 wordHead m = cond (eqb (m .len) 0) (Word illegal 1) (Word (m .kind) (m .len))
 
--- the digit at a place of the text; 10 for none
-abbrev pub digitAt : List ℕ → ℕ → ℕ
-digitAt s i = cond (isDigit (getD s i 0)) (getD s i 0 - 48) 10
+-- what was found as a digit, and the bytes of it: 10 and 0 where no character was found
+abbrev pub digitIn : Found → ℕ
+digitIn (utf8.Char c n) = digitOf c
+digitIn utf8.Bad = 10
+digitIn utf8.End = 10
 
--- "A digit run is cut by longest of 2 3 4 5 6 7 9 11 13": two digits, else one, else none.
+abbrev pub bytesIn : Found → ℕ
+bytesIn (utf8.Char c n) = n
+bytesIn utf8.Bad = 0
+bytesIn utf8.End = 0
+
+-- "A digit run is cut by longest of 2 3 4 5 6 7 9 11 13": two digits, else one, else none. The digits are d, of n bytes, and e, of m; a
+-- number's length is its count of digits.
 abbrev pub twoDigits : List ℕ
 twoDigits = 11 ∷ 13 ∷ []
 
 abbrev pub oneDigit : List ℕ
 oneDigit = 2 ∷ 3 ∷ 4 ∷ 5 ∷ 6 ∷ 7 ∷ 9 ∷ []
 
-abbrev pub numberHead : ℕ → ℕ → Head
-numberHead d e =
-    cond (elem (10 * d + e) twoDigits) (Number (numberOf (Extension (10 * d + e))) 2)
-    (cond (elem d oneDigit) (Number (numberOf (Extension d)) 1)
-    Digit)
+abbrev pub numberHead : ℕ → ℕ → ℕ → ℕ → Head
+numberHead d n e m =
+    cond (elem (10 * d + e) twoDigits) (Number (numberOf (Extension (10 * d + e))) 2 (n + m))
+    (cond (elem d oneDigit) (Number (numberOf (Extension d)) 1 n)
+    (Digit n))
+
+-- the number that the digit d, of n bytes, begins, by what stands behind it
+abbrev pub numberBy : ℕ → ℕ → Found → Head
+numberBy d n f = numberHead d n (digitIn f) (bytesIn f)
 
 -- what a text begins with, by its first character. (In a well-formed text there is always one.)
 abbrev pub headBy : Found → List ℕ → Head
 headBy (utf8.Char c n) s =
     cond (isLetter c) (wordHead (longest s))
-    (cond (isDigit c) (numberHead (digitAt s 0) (digitAt s 1))
+    (cond (isDigit c) (numberBy (digitOf c) n (charOf (drop n s)))
     (cond (eqb c 0x20) Space
     (signHead c n)))
 headBy utf8.Bad s = Word illegal 1
@@ -92,8 +108,8 @@ abbrev pub emit : Head → List Token → ℕ → (ℕ → List Token → List T
 emit Space held p more = held ++ more 0 []
 emit (Sign k n) held p more = held ++ (token k (signPos p n) 1 ∷ more (n - 1) [])
 emit (Word k n) held p more = held ++ (token k p n ∷ more (n - 1) [])
-emit (Number k n) held p more = token k p n ∷ more (n - 1) held
-emit Digit held p more = more 0 (token illegal p 1 ∷ held)
+emit (Number k l n) held p more = token k p l ∷ more (n - 1) held
+emit (Digit n) held p more = more (n - 1) (token illegal p 1 ∷ held)
 
 -- the tokens of a text that begins at p, after its first k bytes
 unfoldable pub lex : ℕ → List Token → ℕ → List ℕ → List Token
@@ -113,5 +129,5 @@ abbrev pub sizeOf : Head → ℕ
 sizeOf Space = 1
 sizeOf (Sign k n) = n
 sizeOf (Word k n) = n
-sizeOf (Number k n) = n
-sizeOf Digit = 1
+sizeOf (Number k l n) = n
+sizeOf (Digit n) = n

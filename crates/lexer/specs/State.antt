@@ -54,8 +54,8 @@ abbrev pub planOf : Head → Scan → Plan
 planOf head.Space s = record { adds = false; place = s .count; kind = 0; pos = 0; len = 0; next = scan (s .at + 1) (s .count) (s .count) }
 planOf (head.Sign k n) s = plan (s .count) k (signPos (s .at) n) 1 (scan (s .at + n) (s .count + 1) (s .count + 1))
 planOf (head.Word k n) s = plan (s .count) k (s .at) n (scan (s .at + n) (s .count + 1) (s .count + 1))
-planOf (head.Number k n) s = plan (s .held) k (s .at) n (scan (s .at + n) (s .held + 1) (s .count + 1))
-planOf head.Digit s = plan (s .held) illegal (s .at) 1 (scan (s .at + 1) (s .held) (s .count + 1))
+planOf (head.Number k l n) s = plan (s .held) k (s .at) l (scan (s .at + n) (s .held + 1) (s .count + 1))
+planOf (head.Digit n) s = plan (s .held) illegal (s .at) 1 (scan (s .at + n) (s .held) (s .count + 1))
 
 -- the tokens that stand in the arrays, but for the held digits, and those still to come
 abbrev pub whole : List ℕ → Scan → List Token → List Token

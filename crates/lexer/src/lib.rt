@@ -4,9 +4,9 @@ ghost use mathlib.Core.Path.{_≡_};
 ghost use Prim.Native.Nat.{_+_, _<_, _≤_};
 ghost use lib.ListN.{length, getD, drop};
 ghost use Rattle.token.specs.Token.{token as tokenOf, rows, Room, Untouched};
-ghost use Rattle.utf8.specs.Utf8.{begins};
+ghost use Rattle.utf8.specs.Utf8.{begins, charAt};
 ghost use Rattle.lexer.specs.Words.{words as wordList, better as betterOf, longest as longestOf};
-ghost use Rattle.lexer.specs.Lexer.{isLetter, isDigit, signOf, signHead, wordHead, elem, twoDigits, oneDigit, numberHead, digitAt, headBy, headOf, sizeOf, lex};
+ghost use Rattle.lexer.specs.Lexer.{isLetter, digitOf, signOf, signHead, wordHead, elem, twoDigits, oneDigit, digitIn, numberHead, headBy, headOf, sizeOf, lex};
 ghost use Rattle.lexer.specs.State.{Tables, firstPlace, padded, wordAt, scan, plan, planOf, Inserted, Emitted, Written, Scanned};
 ghost use Rattle.utf8.specs.declared.Found.the-variants as utf8;
 use utf8::Found;
@@ -140,13 +140,14 @@ pub struct Match {
     pub kind: u8,
 }
 
-// What stands at a place of the text: a space; a sign, a word or a number with the number of its type and its bytes; a digit of no number.
+// What stands at a place of the text: a space; a sign or a word with the number of its type and its bytes; a number with the number of its
+// type, its length, which is its count of digits, and its bytes; a digit of no number with its bytes.
 pub enum Head {
     Space,
     Sign(u8, usize),
     Word(u8, usize),
-    Number(u8, usize),
-    Digit,
+    Number(u8, u16, usize),
+    Digit(usize),
 }
 
 // The place in the text and the count of tokens; those from `held` on are the Illegal digits of a run that goes on.
@@ -291,13 +292,17 @@ fn is_letter(c: u32) -> bool
     c <= 122
 }
 
-fn is_digit(c: u32) -> bool
-    ensures { λ r. ⌜ r ≡ isDigit c ⌝ }
+// The digit that a character is, 10 for none.
+fn digit_of(c: u32) -> u8
+    ensures { λ r. ⌜ (r ≡ digitOf c) × (r ≤ 10) ⌝ }
 {
     if c < 48 {
-        return false;
+        return 10;
     }
-    c <= 57
+    if c <= 57 {
+        return (c - 48) as u8;
+    }
+    10
 }
 
 // The number of a sign's type, 0 for a character that is no sign.
@@ -343,21 +348,16 @@ fn word_head(m: Match) -> Head
     Head::Word(m.kind, n)
 }
 
-// The digit at a place of the text, 10 for none.
+// The digit that stands at a place of the text, 10 for none. A byte below 128 is its own character, and no character that begins with
+// another byte is a digit.
 fn digit_at(text: &[u8], at: usize) -> u8
-    ensures { λ r. ⌜ (r ≡ digitAt (now (text .entry)) at) × (r ≤ 10) ⌝ }
+    ensures { λ r. ⌜ (r ≡ digitIn (charAt (now (text .entry)) at)) × (r ≤ 10) ⌝ }
 {
     if text.len() <= at {
         return 10;
     }
     let b = text[at];
-    if b < 48 {
-        return 10;
-    }
-    if b <= 57 {
-        return b - 48;
-    }
-    10
+    digit_of(b as u32)
 }
 
 // The numbers of two digits, and those of one.
@@ -386,22 +386,22 @@ fn is_one(d: u8) -> bool
     }
 }
 
-// The number that two digits begin with.
-fn number_head(d: u8, e: u8) -> Head
-    requires { ⌜ (d ≤ 10) × (e ≤ 10) ⌝ }
-    ensures { λ r. ⌜ r ≡ numberHead d e ⌝ }
+// The number that two digits begin with: d, of n bytes, and e, of m.
+fn number_head(d: u8, n: usize, e: u8, m: usize) -> Head
+    requires { ⌜ (d ≤ 10) × (e ≤ 10) × (n ≤ 256) × (m ≤ 256) ⌝ }
+    ensures { λ r. ⌜ r ≡ numberHead d n e m ⌝ }
 {
     let v = 10 * d + e;
     if is_two(v) {
-        return Head::Number(32 + v, 2);
+        return Head::Number(32 + v, 2, n + m);
     }
     if is_one(d) {
-        return Head::Number(32 + d, 1);
+        return Head::Number(32 + d, 1, n);
     }
-    Head::Digit
+    Head::Digit(n)
 }
 
-// What the character c, of n bytes, begins at a place of the text.
+// What the character c, of n bytes, begins at a place of the text. A digit behind the first one has one byte.
 fn head_by(
     words: &[[u8; 10]; 55],
     infos: &[[u8; 3]; 55],
@@ -410,14 +410,15 @@ fn head_by(
     c: u32,
     n: usize,
 ) -> Head
-    requires { ⌜ Tables (now words) (now infos) × (at < length (now text)) ⌝ }
+    requires { ⌜ Tables (now words) (now infos) × (at + n ≤ length (now text)) × (at < length (now text)) × (length (now text) ≤ 256) ⌝ }
     ensures { λ r. ⌜ r ≡ headBy (utf8.Char c n) (drop at (now (text .entry))) ⌝ }
 {
     if is_letter(c) {
         return word_head(longest(words, infos, text, at));
     }
-    if is_digit(c) {
-        return number_head(digit_at(text, at), digit_at(text, at + 1));
+    let d = digit_of(c);
+    if d < 10 {
+        return number_head(d, n, digit_at(text, at + n), 1);
     }
     if c == 32 {
         return Head::Space;
@@ -427,7 +428,7 @@ fn head_by(
 
 // What stands at a place of the text.
 fn head_at(words: &[[u8; 10]; 55], infos: &[[u8; 3]; 55], text: &[u8], at: usize) -> Head
-    requires { ⌜ Tables (now words) (now infos) × (at < length (now text)) ⌝ }
+    requires { ⌜ Tables (now words) (now infos) × (at < length (now text)) × (length (now text) ≤ 256) ⌝ }
     ensures { λ r. ⌜ r ≡ headOf (drop at (now (text .entry))) ⌝ }
 {
     match utf8::char_at(text, at) {
@@ -477,8 +478,8 @@ fn plan_for(h: Head, s: Scan) -> Plan
         },
         Head::Sign(k, b) => add_at(n, k, (at + b) as u16, 1, scan_at(at + b, n + 1, n + 1)),
         Head::Word(k, b) => add_at(n, k, p, b as u16, scan_at(at + b, n + 1, n + 1)),
-        Head::Number(k, b) => add_at(held, k, p, b as u16, scan_at(at + b, held + 1, n + 1)),
-        Head::Digit => add_at(held, ILLEGAL, p, 1, scan_at(at + 1, held, n + 1)),
+        Head::Number(k, l, b) => add_at(held, k, p, l, scan_at(at + b, held + 1, n + 1)),
+        Head::Digit(b) => add_at(held, ILLEGAL, p, 1, scan_at(at + b, held, n + 1)),
     }
 }
 

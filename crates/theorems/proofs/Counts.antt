@@ -20,8 +20,8 @@ emit-few : (h : Head) (held : List Token) (p m : ℕ) (more : ℕ → List Token
 emit-few head.Space held p m more f = omega (arith, length-append held (more 0 []), f 0 [])
 emit-few (head.Sign k n) held p m more f = omega (arith, length-append held (token k (signPos p n) 1 ∷ more (n - 1) []), f (n - 1) [])
 emit-few (head.Word k n) held p m more f = omega (arith, length-append held (token k p n ∷ more (n - 1) []), f (n - 1) [])
-emit-few (head.Number k n) held p m more f = omega (arith, f (n - 1) held)
-emit-few head.Digit held p m more f = omega (arith, f 0 (token illegal p 1 ∷ held))
+emit-few (head.Number k l n) held p m more f = omega (arith, f (n - 1) held)
+emit-few (head.Digit n) held p m more f = omega (arith, f (n - 1) (token illegal p 1 ∷ held))
 
 lex-few : (s : List ℕ) (k : ℕ) (held : List Token) (p : ℕ) → length (lex k held p s) ≤ length held + length s
 unfolding lex

@@ -23,7 +23,8 @@ returns c =
     let s = c .before .before .before .before .before .before in
     let a = s .args in
     let z = latest-none (a .kinds .now) (a .poss .now) (a .lens .now) (a .n) (s .pre .0) (c .before .latest .ensures) (c .if1 .taken) in
-    ((omega arith, sym (no-seven (take (a .n) (rows (a .kinds .now) (a .poss .now) (a .lens .now))) z)), record { kinds = refl; poss = refl; lens = refl })
+    let R = rows (a .kinds .now) (a .poss .now) (a .lens .now) in
+    ((omega arith, sym (no-seven (take (a .n) R) z)), record { kinds = refl; poss = refl; lens = refl })
 
 concat-maj7-requires : tie.Need-concat-maj7-requires
 concat-maj7-requires c κs = search needs
@@ -45,10 +46,13 @@ same-length-4 c = search needs
 
 returns-2 : tie.Need-returns-2
 returns-2 c =
-    let s = c .before .before .before .before .before .before .before .before .before .before .before .before .before .before .before .before .before .before .before .before .before .before .before .before .before .before .before .before .before .before .before .before .before .before .before .before in
-    let x = c .before .before .before .before .before .before .before .before .before .before .before .before .before .before .before .before .before .before .before .before .before .before .before .before .before .before .concat-maj7 in
-    let y = c .before .before .before .before .before .before .before .before .before .before .before .before .before .before .before .before .fold-7 in
-    let z = c .before .before .before .before .before .before .fold-72 in
+    let third = c .before .before .before .before .before .before in
+    let second = third .before .before .before .before .before .before .before .before .before .before in
+    let first = second .before .before .before .before .before .before .before .before .before .before in
+    let s = first .before .before .before .before .before .before .before .before .before .before in
+    let x = first .concat-maj7 in
+    let y = second .fold-7 in
+    let z = third .fold-72 in
     let t = all-turns (x .ensures) (y .ensures) (z .ensures) in
     (t .0, untouched-rows (omega (arith, s .pre .0)) (omega (arith, s .pre .0, x .kept, y .kept, z .kept)) (s .args .n) (t .1))
 

@@ -1,32 +1,33 @@
--- Beyond the text there is no byte, and the definition reads 0 there, which is no digit.
+-- Beyond the text there is no character; before its end a digit goes by the byte.
 -- Assumes nothing.
-use mathlib.Core.Path.{_≡_}
+use mathlib.Core.Path.{sym, ap, _∙_}
 use native.Mathlib.Omega.{arith}
-use lib.ListN.{getD, List·getD-eq-default}
+use lib.ListN.{drop-of-length-le}
 use borrow.Author.Needs.{needs}
-use borrow.Author.Tests.{le-leb, lt-leb}
-use Rattle.lexer.specs.Lexer.{isDigit}
+use Rattle.utf8.specs.Utf8.{charOf}
+use Rattle.lexer.specs.Lexer.{digitIn}
+use Rattle.lexer.proofs.Heads.{digit-byte}
 use Rattle.lexer.proofs.digit_at.Statement.{statement}
 use Rattle.lexer.proofs.digit_at.Tie as tie
 
 returns : tie.Need-returns
-unfolding isDigit
-returns c = let e : getD (c .before .args .text .now) (c .before .args .at) 0 ≡ 0 = List·getD-eq-default (c .before .args .text .now) 0 (c .if1 .taken) in (rw e, omega arith)
+unfolding charOf
+returns c = (sym (ap (λ t. digitIn (charOf t)) (drop-of-length-le (c .before .before .args .text .now) (c .if1 .taken))), omega arith)
 
 shared-slice-read-b : tie.Need-shared-slice-read-b
 shared-slice-read-b c = search needs
 
+cast-digit-of : tie.Need-cast-digit-of
+cast-digit-of c = omega (arith, c .shared-slice-known2 .given (c .before .before .before .args .at))
+
+digit-of-requires : tie.Need-digit-of-requires
+digit-of-requires c κs = search needs
+
 returns-2 : tie.Need-returns-2
-unfolding isDigit
-returns-2 c = (rw (lt-leb 48 _ (c .if2 .taken)), omega arith)
-
-returns-3 : tie.Need-returns-3
-unfolding isDigit
-returns-3 c = (rw (le-leb 48 _ (c .before .if2 .left), le-leb _ 57 (c .if3 .taken)), omega arith)
-
-returns-4 : tie.Need-returns-4
-unfolding isDigit
-returns-4 c = (rw (le-leb 48 _ (c .before .if2 .left), lt-leb _ 57 (c .if3 .left)), omega arith)
+returns-2 c =
+    let a = c .before .before .before .before .args in
+    (c .digit-of .ensures .0 ∙ digit-byte (a .text .now) (a .at) (c .before .before .if1 .left), c .digit-of .ensures .1)
 
 pub digit-at-spec : {M : Type 1} → statement M
-digit-at-spec = tie.close (tie.spec returns shared-slice-read-b returns-2 returns-3 returns-4)
+digit-at-spec =
+    tie.close (tie.spec returns shared-slice-read-b cast-digit-of digit-of-requires returns-2)

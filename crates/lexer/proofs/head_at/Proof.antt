@@ -1,11 +1,13 @@
 -- The character that stands there decides.
 -- Assumes nothing.
 use mathlib.Core.Path.{sym, ap, _∙_}
-use lib.ListN.{drop}
+use native.Mathlib.Omega.{arith}
+use lib.ListN.{drop, length-drop}
 use borrow.Author.Needs.{needs}
 use Rattle.lexer.specs.Lexer.{headBy, headOf}
 use Rattle.lexer.proofs.head_at.Statement.{statement}
 use Rattle.lexer.proofs.head_at.Tie as tie
+use Rattle.utf8.proofs.Laws.{found-within}
 
 char-at-requires : tie.Need-char-at-requires
 char-at-requires c κs = search needs
@@ -14,7 +16,11 @@ enum-known-c : tie.Need-enum-known-c
 enum-known-c c = search needs
 
 head-by-requires : tie.Need-head-by-requires
-head-by-requires c κs = search needs
+head-by-requires c κs =
+    let a = c .before .before .before .before .before .args in
+    let p = c .before .before .before .before .before .pre in
+    let w = found-within (drop (a .at) (a .text .now)) _ _ (sym (c .before .before .before .char-at .ensures) ∙ c .before .c .given .1) in
+    (p .0, omega (arith, w, length-drop (a .at) (a .text .now), p .1), p .1, p .2)
 
 enum-told : tie.Need-enum-told
 enum-told c = search needs

@@ -13,8 +13,11 @@ add-v c = search needs
 is-two-requires : tie.Need-is-two-requires
 is-two-requires c κs = search needs
 
-add-t6 : tie.Need-add-t6
-add-t6 c = search needs
+add-t8 : tie.Need-add-t8
+add-t8 c = search needs
+
+add-t9 : tie.Need-add-t9
+add-t9 c = search needs
 
 returns : tie.Need-returns
 returns c = rw (← c .before .is-two .ensures, c .if1 .taken)
@@ -22,8 +25,8 @@ returns c = rw (← c .before .is-two .ensures, c .if1 .taken)
 is-one-requires : tie.Need-is-one-requires
 is-one-requires c κs = search needs
 
-add-t8 : tie.Need-add-t8
-add-t8 c = search needs
+add-t11 : tie.Need-add-t11
+add-t11 c = search needs
 
 returns-2 : tie.Need-returns-2
 returns-2 c = rw (← c .before .before .before .is-two .ensures, c .before .before .if1 .left, ← c .before .is-one .ensures, c .if2 .taken)
@@ -38,9 +41,10 @@ number-head-spec =
     mul-v
     add-v
     is-two-requires
-    add-t6
+    add-t8
+    add-t9
     returns
     is-one-requires
-    add-t8
+    add-t11
     returns-2
     returns-3)

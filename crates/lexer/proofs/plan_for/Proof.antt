@@ -68,9 +68,6 @@ add-at-requires-2 c κs = search needs
 enum-known-h-3 : tie.Need-enum-known-h-3
 enum-known-h-3 c = search needs
 
-cast-add-at-3 : tie.Need-cast-add-at-3
-cast-add-at-3 c = let e = ap sizeOf (c .before .h3 .given .1) in omega (arith, e, c .before .before .before .pre .0)
-
 add-scan-at-8 : tie.Need-add-scan-at-8
 add-scan-at-8 c = let e = ap sizeOf (c .before .h3 .given .1) in omega (arith, e, c .before .before .before .pre .0)
 
@@ -86,11 +83,11 @@ scan-at-requires-4 c κs = search needs
 add-at-requires-3 : tie.Need-add-at-requires-3
 add-at-requires-3 c κs = search needs
 
-enum-told-2 : tie.Need-enum-told-2
-enum-told-2 c = search needs
+enum-known-h-4 : tie.Need-enum-known-h-4
+enum-known-h-4 c = search needs
 
 add-scan-at-11 : tie.Need-add-scan-at-11
-add-scan-at-11 c = search needs
+add-scan-at-11 c = let e = ap sizeOf (c .before .h4 .given .1) in omega (arith, e, c .before .before .before .pre .0)
 
 add-scan-at-12 : tie.Need-add-scan-at-12
 add-scan-at-12 c = search needs
@@ -114,7 +111,9 @@ returns-4 : tie.Need-returns-4
 returns-4 c = c .add-at3 .ensures ∙ rw (c .before .scan-at4 .ensures) (ap (λ x. planOf x (c .before .before .before .before .before .args .s)) (sym (c .before .before .before .h3 .given .1)))
 
 returns-5 : tie.Need-returns-5
-returns-5 c = c .add-at4 .ensures ∙ rw (c .before .scan-at5 .ensures) (ap (λ x. planOf x (c .before .before .before .before .args .s)) (sym (c .before .before .enum-told2 .given .1)))
+returns-5 c =
+    let s = c .before .before .before .before .before .args .s in
+    c .add-at4 .ensures ∙ rw (c .before .scan-at5 .ensures) (ap (λ x. planOf x s) (sym (c .before .before .before .h4 .given .1)))
 
 pub plan-for-spec : {M : Type 1} → statement M
 plan-for-spec =
@@ -140,13 +139,12 @@ plan-for-spec =
     scan-at-requires-3
     add-at-requires-2
     enum-known-h-3
-    cast-add-at-3
     add-scan-at-8
     add-scan-at-9
     add-scan-at-10
     scan-at-requires-4
     add-at-requires-3
-    enum-told-2
+    enum-known-h-4
     add-scan-at-11
     add-scan-at-12
     scan-at-requires-5

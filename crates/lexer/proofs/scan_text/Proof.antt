@@ -23,7 +23,7 @@ loop-holds : tie.Need-loop-holds Inv-loop μ-loop
 loop-holds c = (walk-start _ _, refl, refl, refl)
 
 head-at-requires : tie.Need-head-at-requires Inv-loop μ-loop
-head-at-requires c κs = (c .before .before .before .before .before .before .before .pre .0, c .if1 .taken)
+head-at-requires c κs = let p = c .before .before .before .before .before .before .before .pre in (p .0, c .if1 .taken, p .1)
 
 emit-requires : tie.Need-emit-requires Inv-loop μ-loop
 emit-requires c κs =

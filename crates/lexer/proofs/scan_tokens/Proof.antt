@@ -28,8 +28,9 @@ same-length-3 c = search needs
 
 returns : tie.Need-returns
 returns c =
-    let p = c .before .before .before .before .before .before .before .before .before .before .before .before .before .before .before .before .pre in
-    let e = c .before .before .before .before .before .before .scan-to-end in
+    let called = c .before .before .before .before .before .before in
+    let e = called .scan-to-end in
+    let p = called .before .before .before .before .before .before .before .before .before .before .pre in
     (e .ensures, untouched-rows (omega (arith, p .1)) (omega (arith, p .1, e .kept)) _ (e .ensures .written .rest))
 
 pub scan-tokens-spec : {M : Type 1} → statement M

@@ -38,7 +38,9 @@ slice-aggregate-pre-process-3 : tie.Need-slice-aggregate-pre-process-3
 slice-aggregate-pre-process-3 c = search needs
 
 pre-process-requires : tie.Need-pre-process-requires
-pre-process-requires c κs = (omega (arith, c .before .before .before .before .before .before .scan-tokens .ensures .0 .few), λ j h. le-trans (scanned-short (c .before .before .before .before .before .before .scan-tokens .ensures .0) j h) (omega arith))
+pre-process-requires c κs =
+    let scanned = c .before .before .before .before .before .before .scan-tokens .ensures .0 in
+    (omega (arith, scanned .few), λ j h. le-trans (scanned-short scanned j h) (omega arith))
 
 array-share-prefix-kinds : tie.Need-array-share-prefix-kinds
 array-share-prefix-kinds c = search needs
@@ -66,14 +68,21 @@ slice-aggregate-parse-5 c = search needs
 
 parse-requires : tie.Need-parse-requires
 parse-requires c κs =
-    let text = c .before .before .before .before .before .before .before .before .before .before .before .before .before .before .before .before .before .before .before .before .before .args .text .now in
-    let scan = c .before .before .before .before .before .before .before .before .before .before .before .before .before .before .before .scan-tokens in
+    let after = c .before .before .before .before .before .before .before .before in
+    let folded = after .pre-process in
+    let called = after .before .before .before .before .before .before .before in
+    let scan = called .scan-tokens in
+    let start = called .before .before .before .before .before .before in
+    let text = start .args .text .now in
+    let low = start .pre in
     let scanned = scan .ensures .0 in
     let tokens = take (scan .result) (rows (scan .last .1 .0) (scan .last .1 .1 .0) (scan .last .1 .1 .1 .0)) in
-    let folded = c .before .before .before .before .before .before .before .before .pre-process in
-    let wide = pre-process-ranged (length text + 1) (length text) tokens (scanned .ranged) in (
-      tokens-first (folded .result) (folded .last .0) (folded .last .1 .0) (folded .last .1 .1 .0) (omega (arith, folded .ensures .0 .0, scanned .few, c .before .before .before .before .before .before .before .before .before .before .before .before .before .before .before .before .before .before .before .before .before .pre)) (omega (arith, folded .ensures .0 .0, scanned .few, c .before .before .before .before .before .before .before .before .before .before .before .before .before .before .before .before .before .before .before .before .before .pre, folded .kept))
-          (subst (Ranged 1000 1000) (sym (folded .ensures .0 .1)) (ranged-wider (length text + 1) (length text + length text) 1000 1000 (preProcess tokens) (omega (arith, c .before .before .before .before .before .before .before .before .before .before .before .before .before .before .before .before .before .before .before .before .before .pre)) (omega (arith, c .before .before .before .before .before .before .before .before .before .before .before .before .before .before .before .before .before .before .before .before .before .pre)) wide)),
+    let wide = pre-process-ranged (length text + 1) (length text) tokens (scanned .ranged) in
+    let l = length text in
+    let wider = ranged-wider (l + 1) (l + l) 1000 1000 (preProcess tokens) (omega (arith, low)) (omega (arith, low)) wide in
+    let few = folded .ensures .0 .0 in (
+      tokens-first (folded .result) (folded .last .0) (folded .last .1 .0) (folded .last .1 .1 .0) (omega (arith, few, scanned .few, low))
+          (omega (arith, few, scanned .few, low, folded .kept)) (subst (Ranged 1000 1000) (sym (folded .ensures .0 .1)) wider),
       record { errs = search needs; exps = search needs },
     )
 

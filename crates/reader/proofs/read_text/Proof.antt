@@ -30,13 +30,17 @@ array-share-prefix-poss : tie.Need-array-share-prefix-poss
 array-share-prefix-poss c = search needs
 
 slice-aggregate-parse-2 : tie.Need-slice-aggregate-parse-2
-slice-aggregate-parse-2 c = sym (length-take-le _ _ (omega (arith, c .before .before .before .before .before .tokenize .ensures .room)))
+slice-aggregate-parse-2 c =
+    let r = c .before .before .before .before .before .tokenize .ensures .room in
+    sym (length-take-le _ _ (omega arith))
 
 array-share-prefix-lens : tie.Need-array-share-prefix-lens
 array-share-prefix-lens c = search needs
 
 slice-aggregate-parse-3 : tie.Need-slice-aggregate-parse-3
-slice-aggregate-parse-3 c = sym (length-take-le _ _ (omega (arith, c .before .before .before .before .before .before .tokenize .ensures .room)))
+slice-aggregate-parse-3 c =
+    let r = c .before .before .before .before .before .before .tokenize .ensures .room in
+    sym (length-take-le _ _ (omega arith))
 
 parse-requires : tie.Need-parse-requires
 parse-requires c κs = let t = c .before .before .before .before .before .before .before .tokenize in (tokens-first (t .result) (t .last .1 .0) (t .last .1 .1 .0) (t .last .1 .1 .1 .0) (t .ensures .few) (t .ensures .room) (t .ensures .ranged), c .before .before .before .before .before .before .before .before .before .before .before .before .before .pre .1)

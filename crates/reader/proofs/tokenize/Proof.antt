@@ -18,9 +18,10 @@ scan-tokens-requires c κs = search needs
 
 pre-process-requires : tie.Need-pre-process-requires
 pre-process-requires c κs =
-    let p = c .before .before .before .before .before .before .before .before .before .before .before .before .before .before .before .before .before .pre in
-    let scan = c .before .before .before .before .before .before .before .before .before .scan-tokens in
-    (omega (arith, p .0, p .1, scan .ensures .0 .few, scan .kept), λ j h. le-trans (scanned-short (scan .ensures .0) j h) (omega (arith, p .0)))
+    let called = c .before .before .before .before .before .before .before .before .before in
+    let scan = called .scan-tokens in
+    let p = called .before .before .before .before .before .before .before .before .pre in
+    (omega (arith, p .0, p .1, scan .ensures .0 .few, scan .kept), λ j h. le-trans (scanned-short (scan .ensures .0) j h) (p .0))
 
 same-length : tie.Need-same-length
 same-length c = search needs

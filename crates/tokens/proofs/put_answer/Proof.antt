@@ -50,7 +50,9 @@ slice-aggregate-pre-process-3 : tie.Need-slice-aggregate-pre-process-3
 slice-aggregate-pre-process-3 c = search needs
 
 pre-process-requires : tie.Need-pre-process-requires
-pre-process-requires c κs = (omega (arith, c .before .before .before .before .before .before .scan-tokens .ensures .0 .few), λ j h. le-trans (scanned-short (c .before .before .before .before .before .before .scan-tokens .ensures .0) j h) (omega arith))
+pre-process-requires c κs =
+    let scanned = c .before .before .before .before .before .before .scan-tokens .ensures .0 in
+    (omega (arith, scanned .few), λ j h. le-trans (scanned-short scanned j h) (omega arith))
 
 put-number-requires-3 : tie.Need-put-number-requires-3
 put-number-requires-3 c κs = search needs
