@@ -19,9 +19,9 @@ use Rattle.expression.specs.declared.expression.Exp.the-variants.{Power, Bass, 
 use Rattle.expression.specs.declared.expression.Exp.{Exp}
 use Rattle.house.specs.House.{Part, part, kindOf, parts, select, spellExps}
 use Rattle.house.specs.declared.kind.Kind.{Kind}
-use Rattle.house.specs.Question.{Low}
 use Rattle.house.proofs.Back.{back-at}
 use Rattle.house.proofs.Bools.{and-left, and-right, both-pass}
+use Rattle.house.proofs.Low.{Low}
 use Rattle.house.proofs.Struct.{allowed, allows}
 
 -- a number below 23 is no number from 23 on

@@ -7,5 +7,6 @@ pub mod Invariants
 pub mod Back
 pub mod Allowed
 pub mod Accepted
+pub mod Low
 pub mod Beyond
 pub mod Displayed

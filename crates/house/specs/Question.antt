@@ -1,11 +1,10 @@
--- "Has some accepted text exactly these four?", as a test: a root, the 15 clauses of the set N and K, validation's own test of the set, and the
--- display list that N and K give.
+-- "Has some accepted text exactly these four?", as a test: a root, no members outside the table, the 15 clauses of the set N and K,
+-- validation's own test of the set, and the display list that N and K give.
 use mathlib.Core.Bool.{Bool, true, false, not, _&&_}
 use mathlib.Core.List.{List, [], _∷_}
-use mathlib.Core.Path.{_≡_}
-use Prim.Native.Nat.{ℕ, _≤_}
+use Prim.Native.Nat.{ℕ}
 use lib.Dec.{eqb}
-use Rattle.chord.specs.Chord.{Four}
+use Rattle.chord.specs.Chord.{Four, within}
 use Rattle.chord.specs.Interval.{Set, unison, minorSecond, minorThird, majorThird, augmentedFourth, diminishedFifth, perfectFifth, augmentedFifth, majorSixth, diminishedSeventh, octave, flatNinth, ninth, eleventh, sharpEleventh, flatThirteenth, thirteenth}
 use Rattle.validator.specs.Validator.{setValid}
 use Rattle.house.specs.House.{displayBy, isFlat2, isSecond, isSharp4, isSome, isSus, kindIn}
@@ -54,8 +53,5 @@ realizableBy k n d = all (clauses n k) && (setValid n && sameList d (displayBy k
 
 -- theorems `Canonical` has that it is so exactly when there is such a text
 abbrev pub realizable : Four → Bool
-realizable f = isSome (f .root) && realizableBy (kindIn (f .normalized) (f .display)) (f .normalized) (f .display)
-
--- no member outside the table of 23; so it is of every record
-abbrev pub Low : Set → Type 0
-Low s = (j : ℕ) → 23 ≤ j → s j ≡ false
+realizable f =
+    isSome (f .root) && (within (f .normalized) && realizableBy (kindIn (f .normalized) (f .display)) (f .normalized) (f .display))

@@ -1,5 +1,5 @@
-// Has some accepted text exactly a record's four? A root, the clauses of its set and K, validation's own test of the set, and the display list
-// that they give.
+// Has some accepted text exactly a record's four? A root, no members outside the table, the clauses of its set and K, validation's own test
+// of the set, and the display list that they give.
 ghost use mathlib.Core.Bool.{true, not, _&&_};
 ghost use mathlib.Core.Path.{_≡_};
 ghost use Prim.Native.Nat.{_<_};
@@ -119,6 +119,9 @@ pub fn is_realizable(chord: Chord) -> bool
     let set = chord.normalized;
     let list = chord.display;
     if !is_some(root) {
+        return false;
+    }
+    if !set.is_within() {
         return false;
     }
     is_realizable_by(kind_in(set, list), set, list)

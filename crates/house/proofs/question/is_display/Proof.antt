@@ -23,7 +23,8 @@ returns : tie.Need-returns
 returns c =
     let l = listed (c .before .before .before .args .list) in
     let s = members (c .before .before .before .args .set) in
-    same-test (c .same .result) l (listed (c .before .display .result)) (c .same .ensures) ∙ ap (sameList l) (c .before .display .ensures ∙ ap (λ (k : ℕ). displayOf k s) (c .before .before .sus .ensures))
+    same-test (c .same .result) l (listed (c .before .display .result)) (c .same .ensures)
+    ∙ ap (sameList l) (c .before .display .ensures .1 ∙ ap (λ (k : ℕ). displayOf k s) (c .before .before .sus .ensures))
 
 pub is-display-spec : {M : Type 1} → statement M
 is-display-spec = tie.close (tie.spec sus-requires display-requires same-requires returns)
