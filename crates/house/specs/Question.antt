@@ -51,7 +51,7 @@ sameList (x ∷ l) (y ∷ m) = eqb x y && sameList l m
 abbrev pub realizableBy : Kind → Set → List ℕ → Bool
 realizableBy k n d = all (clauses n k) && (setValid n && sameList d (displayBy k n))
 
--- theorems `Canonical` has that it is so exactly when there is such a text
+-- writer `Answers` (`decided`) has that it is so of a record exactly when there is such a text
 abbrev pub realizable : Four → Bool
 realizable f =
     isSome (f .root) && (within (f .normalized) && realizableBy (kindIn (f .normalized) (f .display)) (f .normalized) (f .display))
