@@ -56,32 +56,33 @@ signHead c n = cond (eqb (signOf c) 0) (Word illegal n) (Sign (signOf c) n)
 abbrev pub wordHead : Match → Head
 wordHead m = cond (eqb (m .len) 0) (Word illegal 1) (Word (m .kind) (m .len))
 
--- what was found as a digit, and the bytes of it: 10 and 0 where no character was found
+-- the digit that was found; 10 for a character that is none, and where there is no character
 abbrev pub digitIn : Found → ℕ
 digitIn (utf8.Char c n) = digitOf c
 digitIn utf8.Bad = 10
 digitIn utf8.End = 10
 
+-- the bytes of the character that was found
 abbrev pub bytesIn : Found → ℕ
 bytesIn (utf8.Char c n) = n
 bytesIn utf8.Bad = 0
 bytesIn utf8.End = 0
 
--- "A digit run is cut by longest of 2 3 4 5 6 7 9 11 13": two digits, else one, else none. The digits are d, of n bytes, and e, of m; a
--- number's length is its count of digits.
+-- "A digit run is cut by longest of 2 3 4 5 6 7 9 11 13": two digits, else one, else none.
 abbrev pub twoDigits : List ℕ
 twoDigits = 11 ∷ 13 ∷ []
 
 abbrev pub oneDigit : List ℕ
 oneDigit = 2 ∷ 3 ∷ 4 ∷ 5 ∷ 6 ∷ 7 ∷ 9 ∷ []
 
+-- What the digits d, of n bytes, and e, of m bytes, begin with. A number's length is its count of digits.
 abbrev pub numberHead : ℕ → ℕ → ℕ → ℕ → Head
 numberHead d n e m =
     cond (elem (10 * d + e) twoDigits) (Number (numberOf (Extension (10 * d + e))) 2 (n + m))
     (cond (elem d oneDigit) (Number (numberOf (Extension d)) 1 n)
     (Digit n))
 
--- the number that the digit d, of n bytes, begins, by what stands behind it
+-- what the digit d, of n bytes, begins with, by the character that stands behind it
 abbrev pub numberBy : ℕ → ℕ → Found → Head
 numberBy d n f = numberHead d n (digitIn f) (bytesIn f)
 
