@@ -9,7 +9,7 @@ use native.Mathlib.Omega.{arith}
 use lib.ListN.{length, take}
 use Rattle.chord.specs.Chord.{Four, fourOf, recordOf}
 use Rattle.chord.specs.declared.Chord.{Chord}
-use Rattle.nophtris.specs.Boundary.{chordBytes, fourIn}
+use Rattle.nophtris.specs.Boundary.{chordBytes, fourIn, valuesIn}
 use Rattle.nophtris.specs.State as C
 use Rattle.pieces.proofs.Realized.{accepted-realizable, spelling-realizes}
 use Rattle.pieces.specs.Spelling.{house}
@@ -125,11 +125,12 @@ c-read-then-write text es es′ c c′ cs cs′ g bs bs′ l l′ r h w =
 
 pub c-any-written-then-read : C-trips.AnyWrittenThenRead
 c-any-written-then-read cs bs bs′ l l′ w es es′ c c′ ds ds′ r h g =
+    let f = valuesIn cs in
     let x = c-write-zero cs bs bs′ l l′ w in
-    let s = x .1 in
-    let k = subst (λ (t : List ℕ). C.Read t es es′ c c′ ds ds′ r) (spelled-bytes s) g in
-    let y = c-reads (house _) es es′ c c′ ds ds′ r _ (s .reads) h k in
-    (y .0, ap fourIn (y .1) ∙ decoded (house _) _ (s .reads) ∙ sym (x .0))
+    let a : IsAccepted (house f) f = x .1 .reads in
+    let k : C.Read (house f) es es′ c c′ ds ds′ r = subst (λ (t : List ℕ). C.Read t es es′ c c′ ds ds′ r) (spelled-bytes (x .1)) g in
+    let y = c-reads (house f) es es′ c c′ ds ds′ r f a h k in
+    (y .0, ap fourIn (y .1) ∙ decoded (house f) f a ∙ sym (x .0))
 
 module _ (text cs w : List ℕ) (b : C-trips.ReadAndWritten text cs w) where
   abbrev F : Four
