@@ -14,8 +14,8 @@ use lib.Seq.{length-take-le, take-append-add, take-append-seam, take-at, take-ta
 use borrow.Author.Tests.{le-ltb, lt-ltb, ltb-true, ltb-false}
 use Rattle.chord.proofs.Bits.{bit-above, bit-low}
 use Rattle.chord.proofs.Store.{member-at, same-number}
-use Rattle.chord.specs.Chord.{Four, bit, digits, fourOf, listOf, listed, members, noChord, noneFrom, recordOf, setOf, within}
-use Rattle.chord.specs.Interval.{Set}
+use Rattle.chord.specs.Chord.{Four, bit, digits, fourOf, listOf, listed, members, noChord, noneFrom, outside, recordOf, setOf, within}
+use Rattle.chord.specs.Interval.{Set, empty}
 use Rattle.chord.specs.declared.interval.IntervalList.{IntervalList}
 use Rattle.chord.specs.declared.interval.IntervalSet.{IntervalSet}
 
@@ -113,8 +113,12 @@ four-back f n h =
     let d = list-back (f .display) h in
     λ i. record { root = f .root; bass = f .bass; normalized = s i; display = d i }
 
+-- the empty set has no member
+empty-none : (j : ℕ) → empty j ≡ false
+empty-none j = refl
+
 pub no-chord-back : fourOf (recordOf noChord) ≡ noChord
-no-chord-back = four-back noChord (λ j h. refl) (omega arith)
+no-chord-back = four-back noChord (λ j h. empty-none j) (omega arith)
 
 -- none of the n numbers from k on
 module _ (s : Set) where
@@ -144,14 +148,14 @@ pub within-at : (s : IntervalSet) → s .bits < 2 ^ 32 → ltb (s .bits) (2 ^ 23
 unfolding within
 within-at s h = go (ltb (s .bits) (2 ^ 23)) refl (within (members s)) refl
   where
-    above : s .bits < 2 ^ 23 → (j : ℕ) → 23 ≤ j → j < 23 + 9 → members s j ≡ false
+    above : s .bits < 2 ^ 23 → (j : ℕ) → 23 ≤ j → j < 23 + outside → members s j ≡ false
     above l j a b = member-at s j (omega arith) ∙ bit-above (s .bits) 23 j l a
 
     below : within (members s) ≡ true → (k : ℕ) → k < 32 → (t : Bool) → ltb k 23 ≡ t → bit (s .bits) k ≡ bit (s .bits % 2 ^ 23) k
     below e k l true p = sym (bit-low (s .bits) 23 k (ltb-true k 23 p))
     below e k l false p =
         let g : 23 ≤ k = ltb-false k 23 p in
-        sym (member-at s k l) ∙ none-says (members s) 9 23 e k g (omega arith)
+        sym (member-at s k l) ∙ none-says (members s) outside 23 e k g (omega arith)
         ∙ sym (bit-above (s .bits % 2 ^ 23) 23 k (mod-lt (s .bits) (pow-pos 23)) g)
 
     small : within (members s) ≡ true → s .bits < 2 ^ 23
@@ -161,6 +165,6 @@ within-at s h = go (ltb (s .bits) (2 ^ 23)) refl (within (members s)) refl
         omega arith
 
     go : (t : Bool) → ltb (s .bits) (2 ^ 23) ≡ t → (w : Bool) → within (members s) ≡ w → t ≡ w
-    go true p w q = sym (none-of (members s) 9 23 (above (ltb-true (s .bits) (2 ^ 23) p))) ∙ q
+    go true p w q = sym (none-of (members s) outside 23 (above (ltb-true (s .bits) (2 ^ 23) p))) ∙ q
     go false p true q = sym p ∙ lt-ltb (s .bits) (2 ^ 23) (small q)
     go false p false q = refl

@@ -24,9 +24,13 @@ abbrev pub noneFrom : ℕ → ℕ → Set → Bool
 noneFrom k zero s = true
 noneFrom k (suc n) s = not (s k) && noneFrom (suc k) n s
 
--- "This also covers members outside the table": a record's set has 32 digits, and none of 23 to 31 is a member
+-- how many digits a record's set has outside the table of 23: 32 in all
+abbrev pub outside : ℕ
+outside = 9
+
+-- "This also covers members outside the table": none of 23 to 31 is a member
 unfoldable pub within : Set → Bool
-within s = noneFrom 23 9 s
+within s = noneFrom 23 outside s
 
 -- the numbers of the code's list
 unfoldable pub listed : IntervalList → List ℕ

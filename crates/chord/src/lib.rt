@@ -6,6 +6,7 @@ ghost use Rattle.chord.specs.Chord.{fourOf, noChord, recordOf};
 
 pub mod interval;
 pub mod note;
+mod pitch;
 
 use interval::IntervalList;
 use interval::IntervalSet;

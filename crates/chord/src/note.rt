@@ -4,8 +4,10 @@ ghost use mathlib.Core.Path.{_≡_};
 ghost use Prim.Native.Nat.{_<_};
 ghost use mathlib.Core.Bool.{true};
 ghost use Rattle.chord.specs.Interval.{memberClass};
-ghost use Rattle.chord.specs.Note.{letterNumber, letterOf, letterClass, alterationOf, modifierNumber, modifierOf, modifierClass, noteNumber, noteOf, pitchClass};
+ghost use Rattle.chord.specs.Note.{letterNumber, letterOf, alterationOf, modifierNumber, modifierOf, noteNumber, noteOf, pitchClass};
 use crate::interval::st;
+use crate::pitch::letter_class;
+use crate::pitch::modifier_class;
 
 pub enum NoteLiteral {
     C,
@@ -65,21 +67,6 @@ impl NoteLiteral {
             _ => NoteLiteral::C,
         }
     }
-
-    // The semitones from C up to the letter.
-    fn class(self) -> u8
-        ensures { λ r. ⌜ (r ≡ letterClass self) × (r < 12) ⌝ }
-    {
-        match self {
-            NoteLiteral::C => 0,
-            NoteLiteral::D => 2,
-            NoteLiteral::E => 4,
-            NoteLiteral::F => 5,
-            NoteLiteral::G => 7,
-            NoteLiteral::A => 9,
-            NoteLiteral::B => 11,
-        }
-    }
 }
 
 impl RootModifier {
@@ -114,17 +101,6 @@ impl RootModifier {
             _ => RootModifier::Natural,
         }
     }
-
-    // What the modifier adds to a pitch class, going round: eleven up is one down.
-    fn class(self) -> u8
-        ensures { λ r. ⌜ (r ≡ modifierClass self) × (r < 12) ⌝ }
-    {
-        match self {
-            RootModifier::Natural => 0,
-            RootModifier::Sharp => 1,
-            RootModifier::Flat => 11,
-        }
-    }
 }
 
 impl Note {
@@ -152,7 +128,7 @@ impl Note {
     {
         let l = self.literal;
         let m = self.modifier;
-        (l.class() + m.class()) % 12
+        (letter_class(l) + modifier_class(m)) % 12
     }
 
     // The pitch class of the interval above the note as a root.

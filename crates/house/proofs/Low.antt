@@ -7,7 +7,7 @@ use native.Mathlib.Omega.{arith}
 use lib.Dec.{ltb}
 use borrow.Author.Tests.{ltb-false, ltb-true}
 use Rattle.chord.proofs.Record.{none-of, none-says}
-use Rattle.chord.specs.Chord.{within}
+use Rattle.chord.specs.Chord.{outside, within}
 use Rattle.chord.specs.Interval.{Set}
 
 -- no member from 23 on
@@ -21,9 +21,9 @@ low-of s e n j h = go (ltb j 32) refl
     go : (t : Bool) → ltb j 32 ≡ t → s j ≡ false
     go true p =
         let l : j < 32 = ltb-true j 32 p in
-        none-says s 9 23 e j h (omega arith)
+        none-says s outside 23 e j h (omega arith)
     go false p = n j (ltb-false j 32 p)
 
 pub within-of : (s : Set) → Low s → within s ≡ true
 unfolding within
-within-of s l = none-of s 9 23 (λ j a b. l j a)
+within-of s l = none-of s outside 23 (λ j a b. l j a)

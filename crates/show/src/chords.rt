@@ -1,5 +1,5 @@
 // The line of an accepted text.
-ghost use Prim.Native.Nat.{_<_, _≤_};
+ghost use Prim.Native.Nat.{_<_};
 use crate::print::put;
 use crate::print::put_first;
 use crate::print::put_name;
@@ -7,7 +7,6 @@ use crate::print::put_number;
 use crate::print::put_text;
 use chord::Chord;
 use chord::interval::IntervalSet;
-use chord::interval::st;
 use chord::note::Note;
 use chord::note::NoteLiteral;
 use chord::note::OptionalNote;
@@ -70,35 +69,7 @@ struct Classes {
     sound: [bool; 12],
 }
 
-// The pitch class of a letter, 12 for C, so that a flat can be taken from it.
-fn letter_class(l: NoteLiteral) -> u16
-    ensures { λ r. ⌜ (1 ≤ r) × (r ≤ 12) ⌝ }
-{
-    match l {
-        NoteLiteral::C => 12,
-        NoteLiteral::D => 2,
-        NoteLiteral::E => 4,
-        NoteLiteral::F => 5,
-        NoteLiteral::G => 7,
-        NoteLiteral::A => 9,
-        NoteLiteral::B => 11,
-    }
-}
-
-fn class_of(n: Note) -> u16
-    ensures { λ r. ⌜ r < 12 ⌝ }
-{
-    let l = n.literal;
-    let m = n.modifier;
-    let c = letter_class(l);
-    match m {
-        RootModifier::Natural => c % 12,
-        RootModifier::Sharp => (c + 1) % 12,
-        RootModifier::Flat => (c - 1) % 12,
-    }
-}
-
-fn with_class(classes: Classes, class: u16) -> Classes
+fn with_class(classes: Classes, class: u8) -> Classes
     requires { ⌜ class < 12 ⌝ }
 {
     let i = class as usize;
@@ -107,19 +78,17 @@ fn with_class(classes: Classes, class: u16) -> Classes
     c
 }
 
-// The classes with the interval i above a root class, if it is a member.
-fn with_interval(classes: Classes, set: IntervalSet, root: u16, i: u8) -> Classes
-    requires { ⌜ (root < 12) × (i < 23) ⌝ }
+// The classes with the interval i above the root, if it is a member.
+fn with_interval(classes: Classes, set: IntervalSet, root: Note, i: u8) -> Classes
+    requires { ⌜ i < 23 ⌝ }
 {
     if set.contains(i) {
-        return with_class(classes, (root + (st(i) as u16)) % 12);
+        return with_class(classes, root.member_class(i));
     }
     classes
 }
 
-fn with_set(classes: Classes, set: IntervalSet, root: u16) -> Classes
-    requires { ⌜ root < 12 ⌝ }
-{
+fn with_set(classes: Classes, set: IntervalSet, root: Note) -> Classes {
     let mut c = classes;
     let mut i = 0;
     while i < 23 {
@@ -132,7 +101,7 @@ fn with_set(classes: Classes, set: IntervalSet, root: u16) -> Classes
 fn with_bass(classes: Classes, bass: OptionalNote) -> Classes {
     match bass {
         OptionalNote::None => classes,
-        OptionalNote::Some(n) => with_class(classes, class_of(n)),
+        OptionalNote::Some(n) => with_class(classes, n.pitch_class()),
     }
 }
 
@@ -152,7 +121,7 @@ fn put_sound(root: OptionalNote, bass: OptionalNote, set: IntervalSet) {
     match root {
         OptionalNote::None => put(b" none"),
         OptionalNote::Some(n) => {
-            let c = with_set(none, set, class_of(n));
+            let c = with_set(none, set, n);
             put_classes(with_bass(c, bass));
         }
     }
