@@ -104,6 +104,7 @@ module _ (ks ps ls xs : List ℕ) (st : State) where
   abbrev K : TokenType
   K = typeOf (getD ks (st .at) 0)
 
+  -- what the token step decides of the token at st is its effect, and fits the state
   pub effect-at : (b : Bracket) (q : ℕ) {k : TokenType} {h : Here} {a : Ahead} {r : Effect} → k ≡ K → h ≡ hereIn ps ls xs st → Foreseen (reachOf k) (aheadIn ks ps (st .at + 1)) a → r ≡ insideOf b q k h a → (r ≡ effectIn ks ps ls xs st b q) × Fits st r
   effect-at b q {k} {h} {a} {r} ek eh ea er =
       let e : r ≡ effectIn ks ps ls xs st b q = er ∙ told b q k h ea ∙ (λ i. insideOf b q (ek i) (eh i) (aheadIn ks ps (st .at + 1))) in

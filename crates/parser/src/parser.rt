@@ -6,7 +6,7 @@ ghost use Prim.Native.Nat.{ℕ, _≤_, _<_};
 ghost use lib.ListN.{length};
 ghost use Rattle.token.specs.Token.{rows};
 ghost use Rattle.parser.specs.Parser.{opens, ends, rootEffect};
-ghost use Rattle.parser.specs.State.{bracketIn, bracketBy, effectIn, Ready, Fits, Space, Tokens, start, Did, Took, Read, Parsed};
+ghost use Rattle.parser.specs.State.{bracketIn, bracketBy, Ready, Space, Tokens, start, Did, Took, Read, Parsed};
 use crate::apply::apply;
 use crate::apply::push_error;
 use crate::state::State;
@@ -68,30 +68,6 @@ fn bracket_at(inside: bool, kinds: &[u8], i: usize) -> Bracket
     Bracket::Other
 }
 
-// What the token step decides: the effect of the token at st.at, which is `bracket` to the bracket opened at `pos`.
-fn effect_at(
-    kinds: &[u8],
-    poss: &[u16],
-    lens: &[u16],
-    exps: &[u32],
-    st: State,
-    bracket: Bracket,
-    pos: u16,
-) -> Effect
-    requires { ⌜ Tokens (now kinds) (now poss) (now lens) × (st .at < length (now kinds)) × Ready st × (257 ≤ length (now exps)) ⌝ }
-    ensures { λ r. ⌜ (r ≡ effectIn (now (kinds .entry)) (now (poss .entry)) (now (lens .entry)) (now (exps .entry)) st bracket pos) × Fits st r ⌝ }
-{
-    let at = st.at;
-    let kind = TokenType::from_number(kinds[at]);
-    process_inside(
-        bracket,
-        pos,
-        kind,
-        here_at(poss, lens, exps, st),
-        ahead_of(kind, kinds, poss, at + 1),
-    )
-}
-
 // The token step: decides what the token at st.at does, which is `bracket` to the bracket opened at `pos`, does it, and has the bracket
 // that it opens read.
 fn take_token(
@@ -109,7 +85,14 @@ fn take_token(
         (now (errs .entry)) (now (errs .exit)) (now (exps .entry)) (now (exps .exit)) ⌝ }
 {
     let at = st.at;
-    let e = effect_at(kinds, poss, lens, exps, st, bracket, pos);
+    let kind = TokenType::from_number(kinds[at]);
+    let e = process_inside(
+        bracket,
+        pos,
+        kind,
+        here_at(poss, lens, exps, st),
+        ahead_of(kind, kinds, poss, at + 1),
+    );
     let u = apply(st, e, errs, exps);
     if opens_at(kinds, at) {
         let r = read_tokens(kinds, poss, lens, u.copied(), true, poss[at], errs, exps);

@@ -2,8 +2,8 @@
 ghost use mathlib.Core.Path.{_≡_};
 ghost use Prim.Native.Nat.{_+_, _<_};
 ghost use lib.Signed.{mag, ltZ};
-ghost use lib.IntN.{pos};
-ghost use Rattle.step.specs.Effect.{pushing, taking};
+ghost use lib.IntN.{pos, _-ℤ_};
+ghost use Rattle.step.specs.Effect.{counting, kept, pushing, taking};
 ghost use Rattle.step.specs.Step.{intervalAlone, susAllows, intervalInSus, addInterval, placed, modifierStep, isPower, numberStep, augStep, hyphenStep, susStep, omitTarget, omitStep, addTarget, addSigned, addStep, sixNine, lastly, bassStep, slashStep, openStep, closed, closeStep, commaStep, stepOf, insideOf, bracketKind};
 use crate::context::Context;
 use crate::context::GroupKind;
@@ -306,10 +306,10 @@ fn lparen(h: Here) -> Effect
     }
 }
 
-// A closing sign of a bracket only lowers the count.
-fn close(h: Here) -> Effect
+// The count one lower, and nothing else.
+fn lower(h: Here) -> Effect
     requires { ⌜ mag (h .count) < 1000 ⌝ }
-    ensures { λ r. ⌜ r ≡ closed h ⌝ }
+    ensures { λ r. ⌜ r ≡ counting (h .count -ℤ pos 1) (kept h) ⌝ }
 {
     let context = h.context;
     Effect {
@@ -321,18 +321,22 @@ fn close(h: Here) -> Effect
     }
 }
 
-// A closing sign outside any bracket is an error, lowers the count and sets the state to none.
+// A closing sign of a bracket only lowers the count.
+fn close(h: Here) -> Effect
+    requires { ⌜ mag (h .count) < 1000 ⌝ }
+    ensures { λ r. ⌜ r ≡ closed h ⌝ }
+{
+    lower(h)
+}
+
+// A closing sign outside any bracket is an error too, and sets the state to none.
 fn rparen(h: Here) -> Effect
     requires { ⌜ mag (h .count) < 1000 ⌝ }
     ensures { λ r. ⌜ r ≡ closeStep h ⌝ }
 {
-    Effect {
-        taken: 0,
-        count: h.count - 1,
-        context: Context::None,
-        gains: Gains::None,
-        error: OptionalError::Some(ParserError::UnexpectedClosingParenthesis(h.pos)),
-    }
+    lower(h)
+        .set_error(ParserError::UnexpectedClosingParenthesis(h.pos))
+        .set_context(Context::None)
 }
 
 fn comma(h: Here) -> Effect

@@ -1,9 +1,12 @@
--- The loop of the bracket reader by the laws of the walk: tokens were taken, and the same brackets are open. Twice the tokens left falls
--- from call to call, with one more for the bracket reader, which calls the token step before any token is taken.
+-- The loop of the bracket reader by the laws of the walk: tokens were taken, and the same brackets are open. The token step by the effect
+-- that it decides, and by what was read of the bracket that it opens. Twice the tokens left falls from call to call, with one more for the
+-- bracket reader, which calls the token step before any token is taken.
 use mathlib.Core.Path.{_≡_, refl, sym, _∙_}
 use native.Mathlib.Omega.{arith}
 use borrow.Author.Needs.{needs}
 use lib.ListN.{length}
+use Rattle.parser.proofs.Effects.{effect-at}
+use Rattle.parser.proofs.Rows.{ranged-row}
 use Rattle.parser.proofs.Walk.{Within, read-ends, read-none, read-then, took-alone, took-bracket, within-none, within-one, within-then}
 use Prim.Native.Nat.{ℕ, _+_, _*_, _-_, _<_}
 use borrow.Fn.Kinds.{In}
@@ -16,10 +19,13 @@ use Rattle.parser.proofs.parser.take_token.Kinds as take-token-kinds
 use Rattle.parser.proofs.parser.+read_tokens+take_token.Lts-take_token as take-token-lts
 use Rattle.parser.proofs.apply.apply.Reads as apply-reads
 use Rattle.parser.proofs.parser.bracket_at.Reads as bracket-at-reads
-use Rattle.parser.proofs.parser.effect_at.Reads as effect-at-reads
 use Rattle.parser.proofs.parser.is_end.Reads as is-end-reads
 use Rattle.parser.proofs.parser.opens_at.Reads as opens-at-reads
 use Rattle.parser.proofs.state.State.copied.Reads as copied-reads
+use Rattle.parser.proofs.state.ahead_of.Reads as ahead-of-reads
+use Rattle.parser.proofs.state.here_at.Reads as here-at-reads
+use Rattle.step.proofs.step.process_inside.Reads as process-inside-reads
+use Rattle.token.proofs.TokenType.from_number.Reads as from-number-reads
 use Rattle.parser.proofs.parser.+read_tokens+take_token.{statement}
 use Rattle.parser.proofs.parser.+read_tokens+take_token.Tie.{close}
 
@@ -53,8 +59,14 @@ read-tokens-claims t =
 -- and those in `take_token`
 abbrev take-token-claims : ℕ → take-token-lts.Claims
 take-token-claims t = (
-  effect-at-reads.Asked,
-  effect-at-reads.Learnt,
+  from-number-reads.Asked,
+  from-number-reads.Learnt,
+  here-at-reads.Asked,
+  here-at-reads.Learnt,
+  ahead-of-reads.Asked,
+  ahead-of-reads.Learnt,
+  process-inside-reads.Asked,
+  process-inside-reads.Learnt,
   apply-reads.Asked,
   apply-reads.Learnt,
   opens-at-reads.Asked,
@@ -149,18 +161,57 @@ read-tokens-returns-2 t c =
     let a = s .args in
     read-none (a .kinds .now) (a .poss .now) (a .lens .now) (s .pre .1 .0 .poss) (s .pre .1 .0 .lens) (a .inside) (a .pos) (c .if1 .left) (c .before .before .loop .inv .0)
 
-take-token-effect-at-requires : (t : ℕ) → take-token-lts.Need-effect-at-requires (take-token-claims t) (take-token-at t) take-token.Post
-take-token-effect-at-requires t c κs = let p = c .before .before .before .before .before .before .pre .1 in (p .0, p .1, p .2, p .3 .exps)
+take-token-shared-slice-read-from-number : (t : ℕ)
+    → take-token-lts.Need-shared-slice-read-from-number (take-token-claims t) (take-token-at t) take-token.Post
+take-token-shared-slice-read-from-number t c = c .before .before .before .before .before .before .pre .1 .1
+
+take-token-from-number-requires : (t : ℕ) → take-token-lts.Need-from-number-requires (take-token-claims t) (take-token-at t) take-token.Post
+take-token-from-number-requires t c κs = search needs
+
+take-token-here-at-requires : (t : ℕ) → take-token-lts.Need-here-at-requires (take-token-claims t) (take-token-at t) take-token.Post
+take-token-here-at-requires t c κs =
+    let p = c .before .before .before .before .before .before .before .before .pre .1 in (
+      omega (arith, p .0 .poss, p .1),
+      omega (arith, p .0 .lens, p .1),
+      omega (arith, p .2 .fewer, p .0 .few, p .1, p .3 .exps),
+      omega (arith, p .2 .bound, p .0 .few, p .1),
+    )
+
+take-token-add-ahead-of : (t : ℕ) → take-token-lts.Need-add-ahead-of (take-token-claims t) (take-token-at t) take-token.Post
+take-token-add-ahead-of t c = search needs
+
+take-token-ahead-of-requires : (t : ℕ) → take-token-lts.Need-ahead-of-requires (take-token-claims t) (take-token-at t) take-token.Post
+take-token-ahead-of-requires t c κs =
+    let p = c .before .before .before .before .before .before .before .before .before .pre .1 in
+    omega (arith, p .0 .few, p .1)
+
+take-token-process-inside-requires : (t : ℕ)
+    → take-token-lts.Need-process-inside-requires (take-token-claims t) (take-token-at t) take-token.Post
+take-token-process-inside-requires t c κs =
+    let s = c .before .before .before .before .before .before .before .before .before .before in
+    let a = s .args in
+    let p = s .pre .1 in
+    let r = ranged-row 1000 1000 (a .kinds .now) (a .poss .now) (a .lens .now) (a .st .at)
+    (p .0 .poss) (p .0 .lens) (p .1) (p .0 .ranged) in
+    rw (c .before .here-at .ensures) (omega (arith, r), omega (arith, p .2 .bound, p .0 .few, p .1))
 
 take-token-apply-requires : (t : ℕ) → take-token-lts.Need-apply-requires (take-token-claims t) (take-token-at t) take-token.Post
 take-token-apply-requires t c κs =
-    let p = c .before .before .before .before .before .before .before .before .before .pre .1 in
-    (p .2, omega (arith, p .0 .few, p .1), c .before .before .effect-at .ensures .1, p .3)
+    let e = c .before .before in
+    let g = e .before in
+    let h = g .before in
+    let n = h .before .before in
+    let s = n .before .before .before .before .before .before .before in
+    let a = s .args in
+    let p = s .pre .1 in
+    let f = effect-at (a .kinds .now) (a .poss .now) (a .lens .now) (a .exps .now) (a .st) (a .bracket) (a .pos)
+    (n .from-number .ensures) (h .here-at .ensures) (g .ahead-of .ensures) (e .process-inside .ensures) in
+    (p .2, omega (arith, p .0 .few, p .1), f .1, p .3)
 
 take-token-opens-at-requires : (t : ℕ) → take-token-lts.Need-opens-at-requires (take-token-claims t) (take-token-at t) take-token.Post
 take-token-opens-at-requires t c κs =
     let d = c .before .before .before .before in
-    d .before .before .before .before .before .before .before .before .before .before .pre .1 .1
+    d .before .before .before .before .before .before .before .before .before .before .before .before .before .before .pre .1 .1
 
 take-token-copied-requires : (t : ℕ) → take-token-lts.Need-copied-requires (take-token-claims t) (take-token-at t) take-token.Post
 take-token-copied-requires t c κs =
@@ -173,13 +224,13 @@ take-token-mul-read-tokens t c = search needs
 take-token-shared-slice-read-read-tokens : (t : ℕ) → take-token-lts.Need-shared-slice-read-read-tokens (take-token-claims t) (take-token-at t) take-token.Post
 take-token-shared-slice-read-read-tokens t c =
     let d = c .before .before .before .before .before .before .before .before in
-    let p = d .before .before .before .before .before .before .before .before .before .before .pre .1 in
+    let p = d .before .before .before .before .before .before .before .before .before .before .before .before .before .before .pre .1 in
     omega (arith, p .0 .poss, p .1)
 
 take-token-read-tokens-requires : (t : ℕ) → take-token-lts.Need-read-tokens-requires (take-token-claims t) (take-token-at t) take-token.Post
 take-token-read-tokens-requires t c κs =
     let d = c .before .before .before .before .before .before .before .before .before .before in
-    let s = d .before .before .before .before .before .before .before .before .before .before in
+    let s = d .before .before .before .before .before .before .before .before .before .before .before .before .before .before in
     let p = s .pre .1 in
     rw (c .before .before .before .copied .ensures) (
       omega (arith, s .pre .0, d .apply .ensures .moved, p .1),
@@ -208,10 +259,15 @@ take-token-returns t c =
     let o = k .before .before in
     let d = o .before .before .before .before .before in
     let e = d .before .before .before in
-    let s = e .before .before .before .before .before .before .before in
+    let g = e .before in
+    let h = g .before in
+    let n = h .before .before in
+    let s = n .before .before .before .before .before .before .before in
     let a = s .args in
     took-bracket (a .kinds .now) (a .poss .now) (a .lens .now) (s .pre .1 .0 .poss) (s .pre .1 .0 .lens)
-    (a .bracket) (a .pos) (a .st) (a .errs .now) (a .exps .now) (e .effect-at .ensures .0)
+    (a .bracket) (a .pos) (a .st) (a .errs .now) (a .exps .now)
+    (effect-at (a .kinds .now) (a .poss .now) (a .lens .now) (a .exps .now) (a .st) (a .bracket) (a .pos)
+    (n .from-number .ensures) (h .here-at .ensures) (g .ahead-of .ensures) (e .process-inside .ensures) .0)
     (sym (o .opens-at .ensures) ∙ k .before .if1 .taken)
     (d .apply .ensures) (k .copied .ensures) (r .read-tokens .ensures) (c .copied2 .ensures)
 
@@ -226,10 +282,15 @@ take-token-returns-2 t c =
     let o = c .before in
     let d = o .before .before .before .before .before in
     let e = d .before .before .before in
-    let s = e .before .before .before .before .before .before .before in
+    let g = e .before in
+    let h = g .before in
+    let n = h .before .before in
+    let s = n .before .before .before .before .before .before .before in
     let a = s .args in
     took-alone (a .kinds .now) (a .poss .now) (a .lens .now) (s .pre .1 .0 .poss) (s .pre .1 .0 .lens)
-    (a .bracket) (a .pos) (a .st) (a .errs .now) (a .exps .now) (e .effect-at .ensures .0)
+    (a .bracket) (a .pos) (a .st) (a .errs .now) (a .exps .now)
+    (effect-at (a .kinds .now) (a .poss .now) (a .lens .now) (a .exps .now) (a .st) (a .bracket) (a .pos)
+    (n .from-number .ensures) (h .here-at .ensures) (g .ahead-of .ensures) (e .process-inside .ensures) .0)
     (sym (o .opens-at .ensures) ∙ c .if1 .left)
     (d .apply .ensures)
 
@@ -254,7 +315,12 @@ pub +read-tokens+take-token-spec : {M : Type 1} → statement M
     λ t. take-token-lts.spec (take-token-claims t)
     (take-token-at t)
     take-token.Post
-    (take-token-effect-at-requires t)
+    (take-token-shared-slice-read-from-number t)
+    (take-token-from-number-requires t)
+    (take-token-here-at-requires t)
+    (take-token-add-ahead-of t)
+    (take-token-ahead-of-requires t)
+    (take-token-process-inside-requires t)
     (take-token-apply-requires t)
     (take-token-opens-at-requires t)
     (take-token-copied-requires t)

@@ -1,14 +1,14 @@
--- A count of magnitude below 1,000 has room.
+-- As it is written.
 -- Assumes nothing.
-use Rattle.step.proofs.Count.{closes-fits, closes}
+use borrow.Author.Needs.{needs}
 use Rattle.step.proofs.step.close.Statement.{statement}
 use Rattle.step.proofs.step.close.Tie as tie
 
-sub-t3 : tie.Need-sub-t3
-sub-t3 c = closes-fits (c .before .before .args .h .count) (c .before .before .pre)
+lower-requires : tie.Need-lower-requires
+lower-requires c κs = search needs
 
 returns : tie.Need-returns
-returns c = rw (closes (c .before .before .args .h .count) (c .before .before .pre))
+returns c = c .lower .ensures
 
 pub close-spec : {M : Type 1} → statement M
-close-spec = tie.close (tie.spec sub-t3 returns)
+close-spec = tie.close (tie.spec lower-requires returns)

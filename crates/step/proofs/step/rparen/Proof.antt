@@ -1,14 +1,20 @@
--- A count of magnitude below 1,000 has room.
+-- As it is written.
 -- Assumes nothing.
-use Rattle.step.proofs.Count.{closes-fits, closes}
+use borrow.Author.Needs.{needs}
 use Rattle.step.proofs.step.rparen.Statement.{statement}
 use Rattle.step.proofs.step.rparen.Tie as tie
 
-sub-t2 : tie.Need-sub-t2
-sub-t2 c = closes-fits (c .before .before .args .h .count) (c .before .before .pre)
+lower-requires : tie.Need-lower-requires
+lower-requires c κs = search needs
+
+set-error-requires : tie.Need-set-error-requires
+set-error-requires c κs = search needs
+
+set-context-requires : tie.Need-set-context-requires
+set-context-requires c κs = search needs
 
 returns : tie.Need-returns
-returns c = rw (closes (c .before .before .args .h .count) (c .before .before .pre))
+returns c = rw (c .set-context .ensures, c .before .set-error .ensures, c .before .before .lower .ensures)
 
 pub rparen-spec : {M : Type 1} → statement M
-rparen-spec = tie.close (tie.spec sub-t2 returns)
+rparen-spec = tie.close (tie.spec lower-requires set-error-requires set-context-requires returns)
