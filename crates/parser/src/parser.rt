@@ -95,7 +95,8 @@ fn take_token(
     );
     let u = apply(st, e, errs, exps);
     if opens_at(kinds, at) {
-        let r = read_tokens(kinds, poss, lens, u.copied(), true, poss[at], errs, exps);
+        let opened = poss[at];
+        let r = read_tokens(kinds, poss, lens, u.copied(), true, opened, errs, exps);
         return r.copied();
     }
     u
@@ -118,8 +119,9 @@ fn read_tokens(
     let mut s = st;
     while s.at < kinds.len() {
         let bracket = bracket_at(inside, kinds, s.at);
+        let last = is_end(bracket);
         s = take_token(kinds, poss, lens, s, bracket, pos, errs, exps);
-        if is_end(bracket) {
+        if last {
             return s;
         }
     }

@@ -54,7 +54,7 @@ take-token-below t =
 -- what the calls in `read_tokens` ask and give, below the measure t
 abbrev read-tokens-claims : ℕ → read-tokens-lts.Claims
 read-tokens-claims t =
-    (bracket-at-reads.Asked, bracket-at-reads.Learnt, take-token-below t, take-token.Post, is-end-reads.Asked, is-end-reads.Learnt)
+    (bracket-at-reads.Asked, bracket-at-reads.Learnt, is-end-reads.Asked, is-end-reads.Learnt, take-token-below t, take-token.Post)
 
 -- and those in `take_token`
 abbrev take-token-claims : ℕ → take-token-lts.Claims
@@ -93,22 +93,23 @@ read-tokens-loop-holds t c =
 read-tokens-bracket-at-requires : (t : ℕ) → read-tokens-lts.Need-bracket-at-requires (read-tokens-claims t) (read-tokens-at t) read-tokens.Post Inv μ-loop
 read-tokens-bracket-at-requires t c κs = c .if1 .taken
 
+read-tokens-is-end-requires : (t : ℕ)
+    → read-tokens-lts.Need-is-end-requires (read-tokens-claims t) (read-tokens-at t) read-tokens.Post Inv μ-loop
+read-tokens-is-end-requires t c κs = search needs
+
 read-tokens-take-token-requires : (t : ℕ) → read-tokens-lts.Need-take-token-requires (read-tokens-claims t) (read-tokens-at t) read-tokens.Post Inv μ-loop
 read-tokens-take-token-requires t c κs =
-    let l = c .before .before .before .before .before in
+    let l = c .before .before .before .before .before .before in
     let i = l .loop .inv in
     let p = l .before .before .before .before .before .before .pre in (
       omega (arith, p .0, i .0 .forward),
       (
         p .1 .0,
-        c .before .before .before .if1 .taken,
+        c .before .before .before .before .if1 .taken,
         i .0 .ready,
         record { errs = omega (arith, p .1 .2 .errs, i .1); exps = omega (arith, p .1 .2 .exps, i .2) },
       ),
     )
-
-read-tokens-is-end-requires : (t : ℕ) → read-tokens-lts.Need-is-end-requires (read-tokens-claims t) (read-tokens-at t) read-tokens.Post Inv μ-loop
-read-tokens-is-end-requires t c κs = search needs
 
 read-tokens-same-length : (t : ℕ) → read-tokens-lts.Need-same-length (read-tokens-claims t) (read-tokens-at t) read-tokens.Post Inv μ-loop
 read-tokens-same-length t c = search needs
@@ -118,25 +119,25 @@ read-tokens-same-length-2 t c = search needs
 
 read-tokens-returns : (t : ℕ) → read-tokens-lts.Need-returns (read-tokens-claims t) (read-tokens-at t) read-tokens.Post Inv μ-loop
 read-tokens-returns t c =
-    let k = c .before .before .before .before .before .before in
-    let b = k .before .before .before in
+    let k = c .before .before .before .before .before in
+    let b = k .before .before .before .before in
     let l = b .before .before .before in
     let s = l .before .before .before .before .before .before in
     let a = s .args in
     read-then (a .kinds .now) (a .poss .now) (a .lens .now) (s .pre .1 .0 .poss) (s .pre .1 .0 .lens) (a .inside) (a .pos) (l .loop .inv .0)
     (read-ends (a .kinds .now) (a .poss .now) (a .lens .now) (s .pre .1 .0 .poss) (s .pre .1 .0 .lens) (a .inside) (a .pos)
     (l .loop .s) (l .loop .errs) (l .loop .exps) (b .before .if1 .taken) (b .bracket-at .ensures)
-    (sym (c .before .is-end .ensures) ∙ c .if2 .taken) (k .take-token .ensures))
+    (sym (k .before .before .before .is-end .ensures) ∙ c .if2 .taken) (k .take-token .ensures))
 
 read-tokens-loop-less : (t : ℕ) → read-tokens-lts.Need-loop-less (read-tokens-claims t) (read-tokens-at t) read-tokens.Post Inv μ-loop
 read-tokens-loop-less t c =
-    let k = c .before .before .before .before .before .before in
-    omega (arith, k .take-token .ensures .forward, k .before .before .before .before .if1 .taken)
+    let k = c .before .before .before .before .before in
+    omega (arith, k .take-token .ensures .forward, k .before .before .before .before .before .if1 .taken)
 
 read-tokens-loop-again : (t : ℕ) → read-tokens-lts.Need-loop-again (read-tokens-claims t) (read-tokens-at t) read-tokens.Post Inv μ-loop
 read-tokens-loop-again t c =
-    let k = c .before .before .before .before .before .before in
-    let b = k .before .before .before in
+    let k = c .before .before .before .before .before in
+    let b = k .before .before .before .before in
     let l = b .before .before .before in
     let s = l .before .before .before .before .before .before in
     let a = s .args in (
@@ -144,7 +145,7 @@ read-tokens-loop-again t c =
           (a .inside) (a .pos) (l .loop .inv .0)
           (within-one (a .kinds .now) (a .poss .now) (a .lens .now) (s .pre .1 .0 .poss) (s .pre .1 .0 .lens) (a .inside) (a .pos)
           (l .loop .s) (l .loop .errs) (l .loop .exps) (b .before .if1 .taken) (b .bracket-at .ensures)
-          (sym (c .before .is-end .ensures) ∙ c .if2 .left) (k .take-token .ensures)),
+          (sym (k .before .before .before .is-end .ensures) ∙ c .if2 .left) (k .take-token .ensures)),
       omega (arith, l .loop .inv .1, k .take-token .kept),
       omega (arith, l .loop .inv .2, k .take-token .kept),
     )
@@ -213,26 +214,27 @@ take-token-opens-at-requires t c κs =
     let d = c .before .before .before .before in
     d .before .before .before .before .before .before .before .before .before .before .before .before .before .before .pre .1 .1
 
-take-token-copied-requires : (t : ℕ) → take-token-lts.Need-copied-requires (take-token-claims t) (take-token-at t) take-token.Post
-take-token-copied-requires t c κs =
-    let r = c .before .before .before .before .before .before .apply .ensures .ready in
-    omega (arith, r .bound, r .small)
+take-token-mul-opened : (t : ℕ) → take-token-lts.Need-mul-opened (take-token-claims t) (take-token-at t) take-token.Post
+take-token-mul-opened t c = search needs
 
-take-token-mul-read-tokens : (t : ℕ) → take-token-lts.Need-mul-read-tokens (take-token-claims t) (take-token-at t) take-token.Post
-take-token-mul-read-tokens t c = search needs
-
-take-token-shared-slice-read-read-tokens : (t : ℕ) → take-token-lts.Need-shared-slice-read-read-tokens (take-token-claims t) (take-token-at t) take-token.Post
-take-token-shared-slice-read-read-tokens t c =
-    let d = c .before .before .before .before .before .before .before .before in
+take-token-shared-slice-read-opened : (t : ℕ)
+    → take-token-lts.Need-shared-slice-read-opened (take-token-claims t) (take-token-at t) take-token.Post
+take-token-shared-slice-read-opened t c =
+    let d = c .before .before .before .before .before .before .before in
     let p = d .before .before .before .before .before .before .before .before .before .before .before .before .before .before .pre .1 in
     omega (arith, p .0 .poss, p .1)
+
+take-token-copied-requires : (t : ℕ) → take-token-lts.Need-copied-requires (take-token-claims t) (take-token-at t) take-token.Post
+take-token-copied-requires t c κs =
+    let r = c .before .before .before .before .before .before .before .apply .ensures .ready in
+    omega (arith, r .bound, r .small)
 
 take-token-read-tokens-requires : (t : ℕ) → take-token-lts.Need-read-tokens-requires (take-token-claims t) (take-token-at t) take-token.Post
 take-token-read-tokens-requires t c κs =
     let d = c .before .before .before .before .before .before .before .before .before .before in
     let s = d .before .before .before .before .before .before .before .before .before .before .before .before .before .before in
     let p = s .pre .1 in
-    rw (c .before .before .before .copied .ensures) (
+    rw (c .before .before .copied .ensures) (
       omega (arith, s .pre .0, d .apply .ensures .moved, p .1),
       (
         p .0,
@@ -255,8 +257,8 @@ take-token-same-length-2 t c = search needs
 take-token-returns : (t : ℕ) → take-token-lts.Need-returns (take-token-claims t) (take-token-at t) take-token.Post
 take-token-returns t c =
     let r = c .before .before .before .before .before in
-    let k = r .before .before .before .before in
-    let o = k .before .before in
+    let k = r .before .before .before in
+    let o = k .before .before .before in
     let d = o .before .before .before .before .before in
     let e = d .before .before .before in
     let g = e .before in
@@ -268,7 +270,7 @@ take-token-returns t c =
     (a .bracket) (a .pos) (a .st) (a .errs .now) (a .exps .now)
     (effect-at (a .kinds .now) (a .poss .now) (a .lens .now) (a .exps .now) (a .st) (a .bracket) (a .pos)
     (n .from-number .ensures) (h .here-at .ensures) (g .ahead-of .ensures) (e .process-inside .ensures) .0)
-    (sym (o .opens-at .ensures) ∙ k .before .if1 .taken)
+    (sym (o .opens-at .ensures) ∙ k .before .before .if1 .taken)
     (d .apply .ensures) (k .copied .ensures) (r .read-tokens .ensures) (c .copied2 .ensures)
 
 take-token-same-length-3 : (t : ℕ) → take-token-lts.Need-same-length-3 (take-token-claims t) (take-token-at t) take-token.Post
@@ -302,8 +304,8 @@ pub +read-tokens+take-token-spec : {M : Type 1} → statement M
     μ-loop
     (read-tokens-loop-holds t)
     (read-tokens-bracket-at-requires t)
-    (read-tokens-take-token-requires t)
     (read-tokens-is-end-requires t)
+    (read-tokens-take-token-requires t)
     (read-tokens-same-length t)
     (read-tokens-same-length-2 t)
     (read-tokens-returns t)
@@ -323,9 +325,9 @@ pub +read-tokens+take-token-spec : {M : Type 1} → statement M
     (take-token-process-inside-requires t)
     (take-token-apply-requires t)
     (take-token-opens-at-requires t)
+    (take-token-mul-opened t)
+    (take-token-shared-slice-read-opened t)
     (take-token-copied-requires t)
-    (take-token-mul-read-tokens t)
-    (take-token-shared-slice-read-read-tokens t)
     (take-token-read-tokens-requires t)
     (take-token-copied-requires-2 t)
     (take-token-same-length t)
