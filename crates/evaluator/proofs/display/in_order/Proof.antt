@@ -18,7 +18,8 @@ use Rattle.evaluator.proofs.display.in_order.Tie as tie
 
 abbrev Inv-loop : tie.InvT-loop
 Inv-loop k s l₀ j₀ l j =
-    (j ≤ 23) × (l .len ≤ j) × (length (l .numbers) ≡ 23) × (listed l ++ chosen (members s) (shown k) (drop j (order k)) ≡ displayOf k (members s))
+    (j ≤ 23) × (l .len ≤ j) × (length (l .numbers) ≡ 23)
+    × (listed l ++ chosen (members s) (shown k) (drop j (order k)) ≡ displayOf k (members s))
     × (drop (l .len) (l .numbers) ≡ replicate (23 - l .len) 0)
 
 abbrev μ-loop : tie.MeasureT-loop
@@ -50,7 +51,8 @@ loop-again c =
     let s = members (c .before .before .before .before .before .args .s) in
     let e : suc j ≡ j + 1 = omega arith in
     let p : l ≡ l ++ cond (s x) (shown k x ∷ []) [] = rw (← c .before .contains .ensures, not-true (c .before .contains .result) (c .if1 .taken)) (sym (append-nil l)) in
-    (omega arith, omega (arith, i .1), i .2, rw (← e) (sym (display-turn l l s k x j (c .before .before .before .loop-test .taken) (c .before .before .order-at .ensures .0) p) ∙ i .3), i .4)
+    let w = display-turn l l s k x j (c .before .before .before .loop-test .taken) (c .before .before .order-at .ensures .0) p in
+    (omega arith, omega (arith, i .1), i .2, rw (← e) (sym w ∙ i .3), i .4)
 
 shown-requires : tie.Need-shown-requires Inv-loop μ-loop
 shown-requires c κs = search needs
@@ -78,11 +80,13 @@ loop-again-2 c =
     let s = members (c .before .before .before .before .before .before .args .s) in
     let e : suc j ≡ j + 1 = omega arith in
     let f : n + 1 ≡ suc n = omega arith in
-    let m : take (n + 1) (set v n y) ≡ take n v ++ (y ∷ []) = rw f (take-suc-set v n y (omega (arith, i .1, i .2, c .before .before .before .before .loop-test .taken))) in
+    let a = c .before .before .before .before .loop-test .taken in
+    let h : n < 23 = omega (arith, i .1, a) in
+    let m : take (n + 1) (set v n y) ≡ take n v ++ (y ∷ []) = rw f (take-suc-set v n y (omega (arith, h, i .2))) in
     let p : take (n + 1) (set v n y) ≡ take n v ++ cond (s x) (shown k x ∷ []) [] = rw (← c .before .before .contains .ensures, not-false (c .before .before .contains .result) (c .before .if1 .left), ← c .shown .ensures) m in
-    let h : n < 23 = omega (arith, i .1, c .before .before .before .before .loop-test .taken) in
     let z : drop (n + 1) (set v n y) ≡ replicate (23 - (n + 1)) 0 = zeros-behind v n y h (i .4) in
-    (omega arith, omega (arith, i .1), simp length-set (i .2), rw (← e) (sym (display-turn (take n v) (take (n + 1) (set v n y)) s k x j (c .before .before .before .before .loop-test .taken) (c .before .before .before .order-at .ensures .0) p) ∙ i .3), z)
+    let w = display-turn (take n v) (take (n + 1) (set v n y)) s k x j a (c .before .before .before .order-at .ensures .0) p in
+    (omega arith, omega (arith, i .1), simp length-set (i .2), rw (← e) (sym w ∙ i .3), z)
 
 returns : tie.Need-returns Inv-loop μ-loop
 returns c =
