@@ -13,7 +13,7 @@ use lib.Seq.{getD-drop, take-append-seam, take-at, take-take}
 use borrow.Author.Tests.{le-leb, ltb-false, ltb-true}
 use Rattle.chord.specs.Chord.{Four}
 use Rattle.chord.specs.Interval.{Set}
-use Rattle.chord.specs.Note.{letterNumber}
+use Rattle.chord.specs.Note.{letterNumber, letterOf}
 use Rattle.chord.specs.declared.note.NoteLiteral.the-variants.{C, D, E, F, G, A, B}
 use Rattle.chord.specs.declared.note.NoteLiteral.{NoteLiteral}
 use Rattle.chord.specs.declared.note.OptionalNote.the-variants.{None, Some}
@@ -28,7 +28,7 @@ use Rattle.house.specs.declared.kind.Kind.the-variants.{Plain, Flat2, Second, S
 use Rattle.house.specs.declared.kind.Kind.{Kind}
 use Rattle.nophtris.proofs.Bytes.{chord-length, padded, set-at, set-length}
 use Rattle.nophtris.proofs.Answers.{holds}
-use Rattle.nophtris.specs.Boundary.{alterationByte, areBits, chordBytes, fourIn, inside, isNote, listBytes, noteBytes, noteIn, setBytes, valuesIn}
+use Rattle.nophtris.specs.Boundary.{alterationByte, areBits, chordBytes, fourIn, inside, isAlteration, isNote, listBytes, modifierIn, noteBytes, noteIn, setBytes, valuesIn}
 use Rattle.pieces.proofs.Realized.{accepted-realizable}
 use Rattle.reader.specs.Reader.{IsAccepted}
 
@@ -46,59 +46,34 @@ note-cells : (n : OptionalNote) → noteBytes n ≡ letterByte n ∷ signByte n 
 note-cells None = refl
 note-cells (Some n) = refl
 
-some-back : (l : NoteLiteral) (m : RootModifier) → noteIn (letterNumber l) (alterationByte m) ≡ Some (record { literal = l; modifier = m })
-some-back C Natural = refl
-some-back C Sharp = refl
-some-back C Flat = refl
-some-back D Natural = refl
-some-back D Sharp = refl
-some-back D Flat = refl
-some-back E Natural = refl
-some-back E Sharp = refl
-some-back E Flat = refl
-some-back F Natural = refl
-some-back F Sharp = refl
-some-back F Flat = refl
-some-back G Natural = refl
-some-back G Sharp = refl
-some-back G Flat = refl
-some-back A Natural = refl
-some-back A Sharp = refl
-some-back A Flat = refl
-some-back B Natural = refl
-some-back B Sharp = refl
-some-back B Flat = refl
+-- what a letter's number and a modifier's byte say
+letter : (l : NoteLiteral) → (letterOf (letterNumber l) ≡ l) × (eqb (letterNumber l) 255 ≡ false) × (ltb (letterNumber l) 7 ≡ true)
+letter C = (refl, refl, refl)
+letter D = (refl, refl, refl)
+letter E = (refl, refl, refl)
+letter F = (refl, refl, refl)
+letter G = (refl, refl, refl)
+letter A = (refl, refl, refl)
+letter B = (refl, refl, refl)
+
+modifier : (m : RootModifier) → (modifierIn (alterationByte m) ≡ m) × (isAlteration (alterationByte m) ≡ true) × (ltb (alterationByte m) 256 ≡ true)
+modifier Natural = (refl, refl, refl)
+modifier Sharp = (refl, refl, refl)
+modifier Flat = (refl, refl, refl)
 
 note-back : (n : OptionalNote) → noteIn (letterByte n) (signByte n) ≡ n
 note-back None = refl
-note-back (Some n) = some-back (n .literal) (n .modifier)
-
-some-inside : (l : NoteLiteral) (m : RootModifier) → isNote (letterNumber l) (alterationByte m) ≡ true
-some-inside C Natural = refl
-some-inside C Sharp = refl
-some-inside C Flat = refl
-some-inside D Natural = refl
-some-inside D Sharp = refl
-some-inside D Flat = refl
-some-inside E Natural = refl
-some-inside E Sharp = refl
-some-inside E Flat = refl
-some-inside F Natural = refl
-some-inside F Sharp = refl
-some-inside F Flat = refl
-some-inside G Natural = refl
-some-inside G Sharp = refl
-some-inside G Flat = refl
-some-inside A Natural = refl
-some-inside A Sharp = refl
-some-inside A Flat = refl
-some-inside B Natural = refl
-some-inside B Sharp = refl
-some-inside B Flat = refl
+note-back (Some n) =
+    let l = letter (n .literal) in
+    let m = modifier (n .modifier) in
+    λ i. cond (l .1 i) None (Some (record { literal = l .0 i; modifier = m .0 i }))
 
 note-inside : (n : OptionalNote) → isNote (letterByte n) (signByte n) ≡ true
 note-inside None = refl
-note-inside (Some n) = some-inside (n .literal) (n .modifier)
+note-inside (Some n) =
+    let l = letter (n .literal) in
+    let m = modifier (n .modifier) in
+    λ i. cond (l .1 i) (eqb (alterationByte (n .modifier)) 0) (l .2 i && m .1 i)
 
 -- ---- the set
 
@@ -221,26 +196,16 @@ bytes-zeros : (n : ℕ) → Bytes (replicate n 0)
 bytes-zeros zero = no-bytes
 bytes-zeros (suc n) = byte-then 0 (replicate n 0) (omega arith) (bytes-zeros n)
 
-letter-byte : (l : NoteLiteral) → letterNumber l < 256
-letter-byte C = omega arith
-letter-byte D = omega arith
-letter-byte E = omega arith
-letter-byte F = omega arith
-letter-byte G = omega arith
-letter-byte A = omega arith
-letter-byte B = omega arith
-
-sign-byte : (m : RootModifier) → alterationByte m < 256
-sign-byte Natural = omega arith
-sign-byte Sharp = omega arith
-sign-byte Flat = omega arith
-
 bytes-two : (x y : ℕ) → x < 256 → y < 256 → Bytes (x ∷ y ∷ [])
 bytes-two x y h k = byte-then x (y ∷ []) h (byte-then y [] k no-bytes)
 
 bytes-note : (n : OptionalNote) → Bytes (noteBytes n)
 bytes-note None = bytes-two 255 0 (omega arith) (omega arith)
-bytes-note (Some n) = bytes-two (letterNumber (n .literal)) (alterationByte (n .modifier)) (letter-byte (n .literal)) (sign-byte (n .modifier))
+bytes-note (Some n) =
+    let l = letterNumber (n .literal) in
+    let m = alterationByte (n .modifier) in
+    let h : l < 7 = ltb-true l 7 (letter (n .literal) .2) in
+    bytes-two l m (omega (arith, h)) (ltb-true m 256 (modifier (n .modifier) .2))
 
 bit-byte : (b : Bool) → cond b 1 0 < 256
 bit-byte true = omega arith
