@@ -20,7 +20,9 @@ use Rattle.chord.specs.declared.interval.IntervalSet.{IntervalSet}
 -- the members after the code's operations
 module _ (n i : ℕ) (h : i < 23) (k : ℕ) where
   pub insert-at : (ltb k 32 && bit (bitOr n ((1 * 2 ^ i) % 2 ^ 32)) k) ≡ (eqb i k || ltb k 32 && bit n k)
-  insert-at = ap (λ (x : ℕ). ltb k 32 && bit (bitOr n x) k) (power i (omega arith)) ∙ ap (λ (b : Bool). ltb k 32 && b) (bit-or n (2 ^ i) k ∙ ap (λ (b : Bool). bit n k || b) (bit-power i k)) ∙ go (ltb k 32) (eqb i k) refl refl (bit n k)
+  insert-at = ap (λ (x : ℕ). ltb k 32 && bit (bitOr n x) k) (power i (omega arith))
+      ∙ ap (λ (b : Bool). ltb k 32 && b) (bit-or n (2 ^ i) k ∙ ap (λ (b : Bool). bit n k || b) (bit-power i k))
+      ∙ go (ltb k 32) (eqb i k) refl refl (bit n k)
     where
       go : (t e : Bool) → ltb k 32 ≡ t → eqb i k ≡ e → (b : Bool) → (t && (b || e)) ≡ (e || t && b)
       go true true p q true = refl
@@ -34,7 +36,9 @@ module _ (n i : ℕ) (h : i < 23) (k : ℕ) where
       go false false p q b = refl
 
   pub remove-at : (ltb k 32 && bit (bitXor n (bitAnd n ((1 * 2 ^ i) % 2 ^ 32))) k) ≡ (not (eqb i k) && (ltb k 32 && bit n k))
-  remove-at = ap (λ (x : ℕ). ltb k 32 && bit (bitXor n (bitAnd n x)) k) (power i (omega arith)) ∙ ap (λ (b : Bool). ltb k 32 && b) (bit-without n (2 ^ i) k ∙ ap (λ (b : Bool). not b && bit n k) (bit-power i k)) ∙ go (ltb k 32) (eqb i k) (bit n k)
+  remove-at = ap (λ (x : ℕ). ltb k 32 && bit (bitXor n (bitAnd n x)) k) (power i (omega arith))
+      ∙ ap (λ (b : Bool). ltb k 32 && b) (bit-without n (2 ^ i) k ∙ ap (λ (b : Bool). not b && bit n k) (bit-power i k))
+      ∙ go (ltb k 32) (eqb i k) (bit n k)
     where
       go : (t e b : Bool) → (t && (not e && b)) ≡ (not e && (t && b))
       go true e b = refl

@@ -43,7 +43,8 @@ abbrev fills : ℕ → Four → List ℕ → List ℕ
 fills n f cs = cond (eqb n 0) (chordBytes f) cs
 
 -- the answer is v
-pub gave-read : {o : reader.Outcome} {r : Reading} {es es′ cs cs′ : List ℕ} (v : Read) (c : ℕ) → r .answer ≡ v → reader-state.Gave o r es es′
+pub gave-read : {o : reader.Outcome} {r : Reading} {es es′ cs cs′ : List ℕ} (v : Read) (c : ℕ) → r .answer ≡ v
+    → reader-state.Gave o r es es′
     → cs′ ≡ fills (reader.numberOf v) (o .four) cs
     → GaveRead o (reader.numberOf v) es es′ c (counts (reader.numberOf v) (reader.countOf v) c) cs cs′
 gave-read {o} {r} {es} {es′} {cs} {cs′} v c e g w =

@@ -62,8 +62,8 @@ valuesIn bs =
       display = take (getD bs 27 0) (take 23 (drop 28 bs));
     }
 
--- each lies in its range: a letter below 7 with an alteration, or none with the alteration 0; 0 or 1 for each interval; a count of at most 23.
--- The numbers behind the count are not looked at.
+-- each lies in its range: a letter below 7 with an alteration, or none with the alteration 0; 0 or 1 for each interval; a count of at
+-- most 23. The numbers behind the count are not looked at.
 abbrev pub isAlteration : ℕ → Bool
 isAlteration a = eqb a (alterationByte Natural) || (eqb a (alterationByte Sharp) || eqb a (alterationByte Flat))
 

@@ -18,8 +18,8 @@ pub record GaveWritten (o : writer.Outcome) (r : ℕ) (bs bs′ : List ℕ) (l l
   pub buffer : bs′ ≡ o .bytes ++ drop (length (o .bytes)) bs
   pub size : l′ ≡ lengthAfter o l
 
--- what a caller of `nophtris_read` knows: of a text it answered r; the list of errors was es and is es′, the count c and c′, the 51 bytes of the
--- chord cs and cs′
+-- what a caller of `nophtris_read` knows: of a text it answered r; the list of errors was es and is es′, the count c and c′, the 51 bytes
+-- of the chord cs and cs′
 abbrev pub Read : (text es es′ : List ℕ) (c c′ : ℕ) (cs cs′ : List ℕ) (r : ℕ) → Type 0
 Read text es es′ c c′ cs cs′ r = GaveRead (reader.readOf (length es) text) r es es′ c c′ cs cs′
 

@@ -126,7 +126,8 @@ pub extern "C" fn nophtris_read(
     count: &mut u16,
     chord: &mut [u8; 51],
 ) -> u8
-    ensures { λ r. ⌜ Read (now (text .entry)) (now (errors .entry)) (now (errors .exit)) (now (count .entry)) (now (count .exit)) (now (chord .entry)) (now (chord .exit)) r ⌝ }
+    ensures { λ r. ⌜ Read (now (text .entry)) (now (errors .entry)) (now (errors .exit)) (now (count .entry)) (now (count .exit))
+        (now (chord .entry)) (now (chord .exit)) r ⌝ }
 {
     let r = reader::read(text, errors);
     let answer = r.answer;

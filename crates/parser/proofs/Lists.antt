@@ -44,10 +44,16 @@ map-append f [] b = refl
 map-append {A} {B} f (x ∷ a) b = ap (λ (q : List B). f x ∷ q) (map-append f a b)
 
 pub gained-none : (n : ℕ) (xs : List ℕ) → Gained n n [] xs xs
-gained-none n xs = record { numbers = sym (append-nil (take n xs)); list = sym (append-nil (expsOf n xs)); rest = refl; count = omega arith }
+gained-none n xs = record {
+  numbers = sym (append-nil (take n xs));
+  list = sym (append-nil (expsOf n xs));
+  rest = refl;
+  count = omega arith;
+}
 
 -- the number of an expression was stored
-pub gained-one : (n v : ℕ) (e : Exp) (xs : List ℕ) → n < length xs → v ≡ expNumber e → expOf v ≡ e → Gained n (n + 1) (e ∷ []) xs (set xs n v)
+pub gained-one : (n v : ℕ) (e : Exp) (xs : List ℕ) → n < length xs → v ≡ expNumber e → expOf v ≡ e
+    → Gained n (n + 1) (e ∷ []) xs (set xs n v)
 gained-one n v e xs h u w =
     let k : suc n ≡ n + 1 = omega arith in
     let t : take (n + 1) (set xs n v) ≡ take n xs ++ (v ∷ []) = ap (λ (j : ℕ). take j (set xs n v)) (sym k) ∙ take-suc-set xs n v h in
@@ -62,7 +68,8 @@ gained-one n v e xs h u w =
 pub gained-then : {n m r : ℕ} {e f : Exp} {xs xs′ xs″ : List ℕ} → Gained n m (e ∷ []) xs xs′ → Gained m r (f ∷ []) xs′ xs″ → Gained n r (e ∷ f ∷ []) xs xs″
 gained-then {n} {m} {r} {e} {f} {xs} {xs′} {xs″} a b =
     record {
-      numbers = b .numbers ∙ ap (λ (q : List ℕ). q ++ (expNumber f ∷ [])) (a .numbers) ∙ append-assoc (take n xs) (expNumber e ∷ []) (expNumber f ∷ []);
+      numbers = b .numbers ∙ ap (λ (q : List ℕ). q ++ (expNumber f ∷ [])) (a .numbers)
+          ∙ append-assoc (take n xs) (expNumber e ∷ []) (expNumber f ∷ []);
       list = b .list ∙ ap (λ (q : List Exp). q ++ (f ∷ [])) (a .list) ∙ append-assoc (expsOf n xs) (e ∷ []) (f ∷ []);
       rest = b .rest ∙ later xs′ xs m r (omega (arith, b .count)) (a .rest);
       count = omega (arith, a .count, b .count);

@@ -55,7 +55,8 @@ expsIn t = parseOf (tokensIn t) .exps
 
 -- no error of the parser, none of validation, and the outcome is the accepted one
 passed-all : (t : List ℕ) {o : Outcome} → Way t o → o .number ≡ 0
-    → (parseOf (tokensIn t) .errs ≡ []) × (validationOf (expsIn t) (evalSet (expsIn t)) ≡ []) × (o ≡ accepted (rootOf (tokensIn t)) (expsIn t))
+    → (parseOf (tokensIn t) .errs ≡ []) × (validationOf (expsIn t) (evalSet (expsIn t)) ≡ [])
+    × (o ≡ accepted (rootOf (tokensIn t)) (expsIn t))
 passed-all t (long h) e = absurd (omega (arith, e))
 passed-all t (bytes h u) e = absurd (omega (arith, e))
 passed-all t (parse h u p) e = absurd (omega (arith, e))
@@ -166,11 +167,21 @@ module _ (r : Note) (b : OptionalNote) (n : Set) (k : Kind) (c : Struct n k) (v 
   display = ap (displayOf (firstSus l′)) same ∙ display-by (firstSus l′) n ∙ ap (λ (q : Kind). displayBy q n) (kind-back (places r n k) b n k)
 
   -- the spelling of any root and bass with such a set and K is accepted, with these four
-  spelled-reads : answerTo text ≡ record { number = 0; count = 0; four = record { root = Some r; bass = b; normalized = n; display = displayBy k n }; errs = [] }
+  spelled-reads : answerTo text ≡ record {
+    number = 0;
+    count = 0;
+    four = record { root = Some r; bass = b; normalized = n; display = displayBy k n };
+    errs = [];
+  }
   spelled-reads =
       reads
       ∙ (λ i. accepted (text-lemma r b n k .2 i) (exps i))
-      ∙ (λ i. record { number = 0; count = 0; four = record { root = Some r; bass = bass-back (places r n k) b n k i; normalized = same i; display = display i }; errs = [] })
+      ∙ (λ i. record {
+        number = 0;
+        count = 0;
+        four = record { root = Some r; bass = bass-back (places r n k) b n k i; normalized = same i; display = display i };
+        errs = [];
+      })
 
 -- the house spelling of a realizable four is accepted, and has these four
 pub spelling-realizes : (f : Four) → Realizable f → IsAccepted (house f) f
@@ -235,7 +246,8 @@ told r f e w t =
     }
 
 by-root : (r : OptionalNote) (f : Four) → f .root ≡ r → Narrow (f .normalized)
-    → T (isSome r && (within (f .normalized) && realizableBy (kindIn (f .normalized) (f .display)) (f .normalized) (f .display))) → Realizable f
+    → T (isSome r && (within (f .normalized) && realizableBy (kindIn (f .normalized) (f .display)) (f .normalized) (f .display)))
+    → Realizable f
 by-root (Some r) f e w t = told r f e w t
 by-root None f e w t = absurd t
 

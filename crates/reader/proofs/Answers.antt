@@ -1,6 +1,5 @@
--- The questions put to a card, by their answers: what each makes the outcome, and from the outcome back to them. Every theorem on a reading goes
--- by these.
--- Assumes nothing.
+-- The questions put to a card, by their answers: what each makes the outcome, and from the outcome back to them. Every theorem on a
+-- reading goes by these. Assumes nothing.
 use mathlib.Core.Bool.{Bool, true, false, cond}
 use mathlib.Core.List.{List, [], _∷_}
 use mathlib.Core.Path.{_≡_, refl, ap, _∙_}
@@ -60,8 +59,10 @@ module _ (text : List ℕ) where
     long : 256 < length text → Way (refused 2)
     bytes : length text ≤ 256 → wellFormed text ≡ false → Way (refused 3)
     parse : {x : ℕ} {e : List ℕ} → length text ≤ 256 → wellFormed text ≡ true → parseErrors ≡ x ∷ e → Way (found 4 (x ∷ e))
-    validation : {x : ℕ} {e : List ℕ} → length text ≤ 256 → wellFormed text ≡ true → parseErrors ≡ [] → validationErrors ≡ x ∷ e → Way (found 5 (x ∷ e))
-    accept : length text ≤ 256 → wellFormed text ≡ true → parseErrors ≡ [] → validationErrors ≡ [] → Way (accepted (rootOf (tokensIn text)) expsIn)
+    validation : {x : ℕ} {e : List ℕ} → length text ≤ 256 → wellFormed text ≡ true → parseErrors ≡ [] → validationErrors ≡ x ∷ e
+        → Way (found 5 (x ∷ e))
+    accept : length text ≤ 256 → wellFormed text ≡ true → parseErrors ≡ [] → validationErrors ≡ []
+        → Way (accepted (rootOf (tokensIn text)) expsIn)
 
   pub way : Way (answerTo text)
   unfolding answerTo

@@ -46,7 +46,8 @@ gave-errors (x ∷ xs) k o n {r} {es} {es′} h m t d a b c w =
     }
 
 -- none was
-pub gave-none : (more : List ℕ) (k : ℕ) (o : Outcome) {r : Reading} {es es′ : List ℕ} → length more ≡ 0 → Gave o r es es′ → Gave (judge more k o) r es es′
+pub gave-none : (more : List ℕ) (k : ℕ) (o : Outcome) {r : Reading} {es es′ : List ℕ} → length more ≡ 0 → Gave o r es es′
+    → Gave (judge more k o) r es es′
 gave-none [] k o h g = g
 gave-none (x ∷ xs) k o h g = absurd (omega (arith, h))
 
@@ -57,10 +58,12 @@ untouched n {es} {es′} z d =
     subst (λ (j : ℕ). drop j es′ ≡ drop j es) e d
 
 -- a question got no, and the outcome is a refusal without errors
-pub gave-refused : {o : Outcome} {k : ℕ} {a : Answer} {r : Reading} (es : List ℕ) → o ≡ refused k → numberOf a ≡ k → countOf a ≡ 0 → r .answer ≡ a
+pub gave-refused : {o : Outcome} {k : ℕ} {a : Answer} {r : Reading} (es : List ℕ) → o ≡ refused k → numberOf a ≡ k → countOf a ≡ 0
+    → r .answer ≡ a
     → fourOf (r .chord) ≡ noChord → r .chord ≡ recordOf noChord → Gave o r es es
 gave-refused {o} {k} {a} {r} es e n m h c w =
-    subst (λ (x : Outcome). Gave x r es es) (sym e) (record { number = ap numberOf h ∙ n; count = ap countOf h ∙ m; four = c; chord = w; list = refl })
+    subst (λ (x : Outcome). Gave x r es es) (sym e)
+    (record { number = ap numberOf h ∙ n; count = ap countOf h ∙ m; four = c; chord = w; list = refl })
 
 -- the same of an outcome that is equal
 pub gave-same : {o o′ : Outcome} {r : Reading} {es es′ : List ℕ} → o ≡ o′ → Gave o′ r es es′ → Gave o r es es′

@@ -75,7 +75,8 @@ parsed ts = judge (parseOf ts .errs) 4 (validated (rootOf ts) (parseOf ts .exps)
 abbrev pub tokensIn : List ℕ → List Token
 tokensIn text = preProcess (tokensOf text)
 
--- the answer to a text, "given an error list that is long enough": "Is the text at most 256 bytes? No: 2. Is it UTF-8 by RFC 3629 ..? No: 3."
+-- the answer to a text, "given an error list that is long enough": "Is the text at most 256 bytes? No: 2. Is it UTF-8 by RFC 3629 ..? No:
+-- 3."
 unfoldable pub answerTo : List ℕ → Outcome
 answerTo text = cond (ltb 256 (length text)) (refused 2) (cond (wellFormed text) (parsed (tokensIn text)) (refused 3))
 

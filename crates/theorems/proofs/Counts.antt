@@ -15,7 +15,8 @@ use Rattle.reader.specs.Reader.{tokensIn}
 use Rattle.token.specs.Token.{Token, token}
 
 -- a head is one token at most, or holds one
-emit-few : (h : Head) (held : List Token) (p m : ℕ) (more : ℕ → List Token → List Token) → ((k : ℕ) (g : List Token) → length (more k g) ≤ length g + m)
+emit-few : (h : Head) (held : List Token) (p m : ℕ) (more : ℕ → List Token → List Token)
+    → ((k : ℕ) (g : List Token) → length (more k g) ≤ length g + m)
     → length (emit h held p more) ≤ length held + suc m
 emit-few head.Space held p m more f = omega (arith, length-append held (more 0 []), f 0 [])
 emit-few (head.Sign k n) held p m more f = omega (arith, length-append held (token k (signPos p n) 1 ∷ more (n - 1) []), f (n - 1) [])
@@ -39,7 +40,8 @@ concat-few [] = omega arith
 concat-few (x ∷ []) = omega arith
 concat-few (x ∷ y ∷ ts) = go (isMaj (x .kind) && is seven y) (concat-few ts) (concat-few (y ∷ ts))
   where
-    go : (b : Bool) → length (concat ts) ≤ length ts → length (concat (y ∷ ts)) ≤ suc (length ts) → length (cond b (whole x y ∷ concat ts) (x ∷ concat (y ∷ ts))) ≤ suc (suc (length ts))
+    go : (b : Bool) → length (concat ts) ≤ length ts → length (concat (y ∷ ts)) ≤ suc (length ts)
+        → length (cond b (whole x y ∷ concat ts) (x ∷ concat (y ∷ ts))) ≤ suc (suc (length ts))
     go true f g = omega (arith, f)
     go false f g = omega (arith, g)
 
@@ -48,7 +50,8 @@ unfolding join
 join-few k r t [] = omega arith
 join-few k r t (x ∷ xs) = go (eqb (count k xs) 0 && is k x) (join-few k r t xs)
   where
-    go : (b : Bool) → length (join k r t xs) ≤ suc (length xs) → length (cond b (paired r x t ∷ xs) (x ∷ join k r t xs)) ≤ suc (suc (length xs))
+    go : (b : Bool) → length (join k r t xs) ≤ suc (length xs)
+        → length (cond b (paired r x t ∷ xs) (x ∷ join k r t xs)) ≤ suc (suc (length xs))
     go true f = omega arith
     go false f = omega (arith, f)
 

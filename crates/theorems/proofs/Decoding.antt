@@ -56,7 +56,8 @@ letter G = (refl, refl, refl)
 letter A = (refl, refl, refl)
 letter B = (refl, refl, refl)
 
-modifier : (m : RootModifier) → (modifierIn (alterationByte m) ≡ m) × (isAlteration (alterationByte m) ≡ true) × (ltb (alterationByte m) 256 ≡ true)
+modifier : (m : RootModifier)
+    → (modifierIn (alterationByte m) ≡ m) × (isAlteration (alterationByte m) ≡ true) × (ltb (alterationByte m) 256 ≡ true)
 modifier Natural = (refl, refl, refl)
 modifier Sharp = (refl, refl, refl)
 modifier Flat = (refl, refl, refl)
@@ -130,12 +131,14 @@ module _ (f : Four) (low : Low (f .normalized)) (few : length (f .display) ≤ 2
 
   bits-back : areBits (take 23 (drop 4 (cells f))) ≡ true
   bits-back =
-      ap areBits (take-at (setBytes 23 0 (f .normalized)) (listBytes (f .display)) 23 (set-length 23 0 (f .normalized))) ∙ bits-inside 23 0 (f .normalized)
+      ap areBits (take-at (setBytes 23 0 (f .normalized)) (listBytes (f .display)) 23 (set-length 23 0 (f .normalized)))
+      ∙ bits-inside 23 0 (f .normalized)
 
   inside-back : inside (chordBytes f) ≡ true
   unfolding inside
   inside-back =
-      ap inside (chord-cells f) ∙ (λ i. note-inside (f .root) i && (note-inside (f .bass) i && (le-leb (length (f .display)) 23 few i && bits-back i)))
+      ap inside (chord-cells f)
+      ∙ (λ i. note-inside (f .root) i && (note-inside (f .bass) i && (le-leb (length (f .display)) 23 few i && bits-back i)))
 
   pub held : fourIn (chordBytes f) ≡ some f
   held = holds (chordBytes f) inside-back ∙ ap some four-back
@@ -240,15 +243,19 @@ bytes-display : (k : Kind) (s : Set) → Bytes (displayBy k s)
 unfolding displayOf
 bytes-display k s = bytes-chosen s (shown (susBy k)) (order (susBy k)) (order-shows k)
 
-pub fifty-one-bytes : (text : List ℕ) (f : Four) → IsAccepted text f → (length (chordBytes f) ≡ 51) × ((i : ℕ) → getD (chordBytes f) i 0 < 256)
+pub fifty-one-bytes : (text : List ℕ) (f : Four) → IsAccepted text f
+    → (length (chordBytes f) ≡ 51) × ((i : ℕ) → getD (chordBytes f) i 0 < 256)
 unfolding chordBytes
 fifty-one-bytes text f a =
     let s = setBytes 23 0 (f .normalized) in
     let d = f .display in
     let z : List ℕ = replicate 23 0 in
-    let shown : Bytes d = subst Bytes (sym (accepted-realizable text f a .displayed)) (bytes-display (kindIn (f .normalized) d) (f .normalized)) in
+    let shown : Bytes d = subst Bytes (sym (accepted-realizable text f a .displayed))
+    (bytes-display (kindIn (f .normalized) d) (f .normalized)) in
     let list : Bytes (listBytes d) =
-    byte-then (length d) (padded d) (omega (arith, accepted-few text f a)) (bytes-take 23 (d ++ z) (bytes-both d z shown (bytes-zeros 23))) in
+    byte-then (length d) (padded d) (omega (arith, accepted-few text f a))
+    (bytes-take 23 (d ++ z) (bytes-both d z shown (bytes-zeros 23))) in
     let rest : Bytes (s ++ listBytes d) = bytes-both s (listBytes d) (bytes-set 23 0 (f .normalized)) list in
-    let low : Bytes (noteBytes (f .bass) ++ (s ++ listBytes d)) = bytes-both (noteBytes (f .bass)) (s ++ listBytes d) (bytes-note (f .bass)) rest in
+    let low : Bytes (noteBytes (f .bass) ++ (s ++ listBytes d)) = bytes-both (noteBytes (f .bass)) (s ++ listBytes d)
+    (bytes-note (f .bass)) rest in
     (chord-length f, bytes-both (noteBytes (f .root)) (noteBytes (f .bass) ++ (s ++ listBytes d)) (bytes-note (f .root)) low)

@@ -1,6 +1,5 @@
--- Which errors there are: four numbers for each, the first of them a kind that occurs, and not more than there is room for. An effect of a token
--- has at most one, and so has each check of validation; the lists are appended.
--- Assumes nothing.
+-- Which errors there are: four numbers for each, the first of them a kind that occurs, and not more than there is room for. An effect of
+-- a token has at most one, and so has each check of validation; the lists are appended. Assumes nothing.
 use mathlib.Core.Bool.{Bool, true, false, not, _&&_, _||_, cond}
 use mathlib.Core.List.{List, [], _∷_, _++_}
 use mathlib.Core.Path.{_≡_, refl, subst}
@@ -99,7 +98,8 @@ module _ (h : Here) where
   omit nx = choice Calm (eqb (numberIn nx) 5) tt (choice Calm (eqb (numberIn nx) 3) tt tt)
 
   target : (k : ℕ) (m : RootModifier) (nx : Next) (q : ℕ) → Calm (addTarget k m h nx q)
-  target k m nx q = choice Calm (isNumber nx) (choice (λ (e : Effect). Calm (taking (k + 1) e)) (eqb (intervalOf m (numberIn nx)) 23) tt tt) (choice Calm (isMaj7 nx) tt tt)
+  target k m nx q = choice Calm (isNumber nx) (choice (λ (e : Effect). Calm (taking (k + 1) e)) (eqb (intervalOf m (numberIn nx)) 23) tt tt)
+      (choice Calm (isMaj7 nx) tt tt)
 
   add : (a : Ahead) → Calm (addSigned h a)
   add a = choice Calm (isSign (a .first)) (target 1 (signIn (a .first)) (a .second) (a .pos2)) (target 0 Natural (a .first) (a .pos))
@@ -125,7 +125,8 @@ step-calm type.Minor h a = tt
 step-calm type.Hyphen h a = choice Calm (eqb (numberIn (a .first)) 5) tt tt
 step-calm type.Maj h a = tt
 step-calm type.Maj7 h a = tt
-step-calm type.Slash h a = choice Calm (sixNine h (a .first)) (choice Calm (isEnd (a .second)) tt tt) (bass h (noteIn (a .first) (signIn (a .second))) a)
+step-calm type.Slash h a = choice Calm (sixNine h (a .first)) (choice Calm (isEnd (a .second)) tt tt)
+    (bass h (noteIn (a .first) (signIn (a .second))) a)
 step-calm type.LParent h a = tt
 step-calm type.RParent h a = tt
 step-calm type.Comma h a = tt
@@ -231,7 +232,8 @@ unfolding firstWrong
 first-wrong-errors [] = nil-errors 1
 first-wrong-errors (e ∷ l) = else-errors (wrongOf e) (firstWrong l) (wrong-errors e) (first-wrong-errors l)
 
-fault-at-errors : (b : Bool) (seen : Set) (x p : ℕ) → Errors 1 (cond b (numbersOf (InvalidExtension p)) (only (seen (semitones x)) (DuplicateExtension p)))
+fault-at-errors : (b : Bool) (seen : Set) (x p : ℕ)
+    → Errors 1 (cond b (numbersOf (InvalidExtension p)) (only (seen (semitones x)) (DuplicateExtension p)))
 fault-at-errors true seen x p = one-error (InvalidExtension p) tt
 fault-at-errors false seen x p = only-errors (seen (semitones x)) (DuplicateExtension p) tt
 
@@ -255,7 +257,8 @@ fault-errors seen (exp.SlashBass n) = nil-errors 1
 extension-fault-errors : (seen : Set) (l : List Exp) → Errors 1 (extensionFault seen l)
 unfolding extensionFault
 extension-fault-errors seen [] = nil-errors 1
-extension-fault-errors seen (e ∷ l) = else-errors (faultOf seen e) (extensionFault (seeing seen e) l) (fault-errors seen e) (extension-fault-errors (seeing seen e) l)
+extension-fault-errors seen (e ∷ l) = else-errors (faultOf seen e) (extensionFault (seeing seen e) l) (fault-errors seen e)
+    (extension-fault-errors (seeing seen e) l)
 
 repeated-errors : (l : List Exp) → Errors 1 (repeated l)
 repeated-errors l = first-errors (repeatedAt (countOf l)) (λ p. only-errors (ltb 1 (countOf l p)) (DuplicateModifier p) tt) 15 0
@@ -268,7 +271,8 @@ conflict-errors s i = only-errors (s (getD reported i 0) && s (getD others i 0))
 
 extension-errors : (l : List Exp) (s : Set) → Errors 8 (extensionErrors l s)
 extension-errors l s =
-    else-errors (extensionFault empty l) (allFrom (conflictAt s) 8 0) (wider 8 (omega arith) (extension-fault-errors empty l)) (all-errors (conflictAt s) (conflict-errors s) 8 0)
+    else-errors (extensionFault empty l) (allFrom (conflictAt s) 8 0) (wider 8 (omega arith) (extension-fault-errors empty l))
+    (all-errors (conflictAt s) (conflict-errors s) 8 0)
 
 semitone-errors : (s : Set) → Errors 12 (semitoneErrors s)
 unfolding semitoneErrors

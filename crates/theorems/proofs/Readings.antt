@@ -1,5 +1,5 @@
--- Readings: the questions in their order, by the reader's way back from an outcome; then what `Read` of the reader and of the C boundary say of it.
--- Assumes nothing.
+-- Readings: the questions in their order, by the reader's way back from an outcome; then what `Read` of the reader and of the C boundary
+-- say of it. Assumes nothing.
 use mathlib.Core.Bool.{Bool, true, false, true≢false, cond}
 use mathlib.Core.List.{List, [], _∷_, _++_}
 use mathlib.Core.Logic.{_↔_}
@@ -127,7 +127,8 @@ module _ (text : List ℕ) where
   -- ---- the errors
 
   -- errors that were found
-  found-errors : {o : Outcome} → Way text o → 4 ≤ o .number → errors.Errors 257 (o .errs) × (1 ≤ length (o .errs)) × (o .count ≡ length (o .errs) / 4)
+  found-errors : {o : Outcome} → Way text o → 4 ≤ o .number
+      → errors.Errors 257 (o .errs) × (1 ≤ length (o .errs)) × (o .count ≡ length (o .errs) / 4)
   found-errors (long k) h = absurd (omega (arith, h))
   found-errors (bytes k u) h = absurd (omega (arith, h))
   found-errors (parse k u p) h = (subst (errors.Errors 257) p (parse-errors (tokensIn text) (tokens-most text k)), omega arith, refl)
@@ -170,11 +171,13 @@ module _ (text : List ℕ) where
         same = omega (arith, size, k, f .0 .few, length-append e (drop (length e) es), length-drop (length e) es);
         kinds = λ i m.
             let b : 4 * i < length e = omega (arith, m, four) in
-            let g : getD es′ (4 * i) 0 ≡ getD e (4 * i) 0 = ap (λ (q : List ℕ). getD q (4 * i) 0) l ∙ List·getD-append e (drop (length e) es) 0 (4 * i) b in
+            let g : getD es′ (4 * i) 0 ≡ getD e (4 * i) 0 = ap (λ (q : List ℕ). getD q (4 * i) 0) l
+            ∙ List·getD-append e (drop (length e) es) 0 (4 * i) b in
             kind-of (getD es′ (4 * i) 0) (subst (λ (n : ℕ). T (occurs n)) (sym g) (row-at (f .0 .rows) i b));
       }
 
-  unlisted : (es es′ : List ℕ) {o : Outcome} → Asked (length es) text o → o .number ≤ 3 → es′ ≡ o .errs ++ drop (length (o .errs)) es → (es′ ≡ es) × (o .count ≡ 0)
+  unlisted : (es es′ : List ℕ) {o : Outcome} → Asked (length es) text o → o .number ≤ 3 → es′ ≡ o .errs ++ drop (length (o .errs)) es
+      → (es′ ≡ es) × (o .count ≡ 0)
   unlisted es es′ (short k) h l = (l, refl)
   unlisted es es′ (enough k) h l =
       let f = nothing-found (way text) h in
@@ -182,7 +185,8 @@ module _ (text : List ℕ) where
 
   -- ---- the record
 
-  accepted-four : (room : ℕ) {o : Outcome} → Asked room text o → o .number ≡ 0 → (o .four ≡ fourOfText text) × IsAccepted text (fourOfText text)
+  accepted-four : (room : ℕ) {o : Outcome} → Asked room text o → o .number ≡ 0
+      → (o .four ≡ fourOfText text) × IsAccepted text (fourOfText text)
   accepted-four room (short h) e = absurd (omega (arith, e))
   accepted-four room (enough h) e = (refl, record { number = e; four = refl })
 
@@ -199,7 +203,8 @@ module _ (text : List ℕ) where
 
 -- ---- an accepted text is read with 0, whatever list is long enough
 
-pub reads-as : (room : ℕ) (text : List ℕ) (f : Four) → IsAccepted text f → 1028 ≤ room → (readOf room text .number ≡ 0) × (readOf room text .four ≡ f)
+pub reads-as : (room : ℕ) (text : List ℕ) (f : Four) → IsAccepted text f → 1028 ≤ room
+    → (readOf room text .number ≡ 0) × (readOf room text .four ≡ f)
 reads-as room text f a h =
     let m = long-list room text h in
     (ap (λ (o : Outcome). o .number) m ∙ a .number, ap (λ (o : Outcome). o .four) m ∙ a .four)
@@ -213,7 +218,8 @@ module _ (text es es′ : List ℕ) (r : Reading) (g : Read text es es′ r) whe
       (g .four ∙ x .0, x .1)
 
 pub read-numbered : ReadNumbered
-read-numbered text es es′ r g = subst (Numbered (length es) text) (sym (g .number)) (numbered text (length es) (asked-first (length es) text))
+read-numbered text es es′ r g = subst (Numbered (length es) text) (sym (g .number))
+    (numbered text (length es) (asked-first (length es) text))
 
 pub read-errors : ReadErrors
 read-errors text es es′ r g h =
@@ -276,7 +282,8 @@ module _ (text : List ℕ) where
   uncounted-first room (enough k) c h = uncounted (way text) c h
 
 pub c-read-numbered : C-reading.ReadNumbered
-c-read-numbered text es es′ c c′ cs cs′ r g = subst (Numbered (length es) text) (sym (g .number)) (numbered text (length es) (asked-first (length es) text))
+c-read-numbered text es es′ c c′ cs cs′ r g = subst (Numbered (length es) text) (sym (g .number))
+    (numbered text (length es) (asked-first (length es) text))
 
 pub c-read-errors : C-reading.ReadErrors
 c-read-errors text es es′ c c′ cs cs′ r g h =
@@ -318,7 +325,8 @@ c-read-record text es es′ c c′ cs cs′ r g = (
 )
 
 -- an accepted text is read with 0, and its four are filled in
-pub c-reads : (text es es′ : List ℕ) (c c′ : ℕ) (cs cs′ : List ℕ) (r : ℕ) (f : Four) → IsAccepted text f → 1028 ≤ length es → C.Read text es es′ c c′ cs cs′ r
+pub c-reads : (text es es′ : List ℕ) (c c′ : ℕ) (cs cs′ : List ℕ) (r : ℕ) (f : Four) → IsAccepted text f → 1028 ≤ length es
+    → C.Read text es es′ c c′ cs cs′ r
     → (r ≡ 0) × (cs′ ≡ chordBytes f)
 c-reads text es es′ c c′ cs cs′ r f a h g =
     let e = g .number ∙ reads-as (length es) text f a h .0 in

@@ -1,5 +1,5 @@
--- Read then write, write then read, in Rattle's terms and in C's: what is written is the house spelling of the four, which is accepted with them.
--- Assumes nothing.
+-- Read then write, write then read, in Rattle's terms and in C's: what is written is the house spelling of the four, which is accepted
+-- with them. Assumes nothing.
 use mathlib.Core.List.{List}
 use mathlib.Core.Logic.{_↔_}
 use mathlib.Core.Option.{Option, none, some}
@@ -43,7 +43,8 @@ module _ (text es es′ : List ℕ) (r : Reading) (g : Read text es es′ r) (e 
   record-accepted = let x = read-accepted text es es′ r g e in subst (IsAccepted text) (sym (x .0)) (x .1)
 
 -- an accepted record is written with 0
-writes : (text : List ℕ) (c : Chord) → IsAccepted text (fourOf c) → (bs bs′ : List ℕ) (a : Answer) → 112 ≤ length bs → Written c bs bs′ a → numberOf a ≡ 0
+writes : (text : List ℕ) (c : Chord) → IsAccepted text (fourOf c) → (bs bs′ : List ℕ) (a : Answer) → 112 ≤ length bs → Written c bs bs′ a
+    → numberOf a ≡ 0
 writes text c t bs bs′ a h w =
     let n = write-numbered c bs bs′ a w in
     n .nought (λ e. let z = n .six .0 e in omega (arith, z, h)) (λ e. n .seven .0 e .1 (text, t))
@@ -56,7 +57,8 @@ read-then-write text es es′ r g e bs bs′ a h w =
 pub any-written-then-read : AnyWrittenThenRead
 any-written-then-read c bs bs′ a w e es es′ r h g =
     let s = write-spelled c bs bs′ a w e in
-    let x = reads-as (length es) (take (lengthOf a) bs′) (fourOf c) (subst (λ (t : List ℕ). IsAccepted t (fourOf c)) (sym (spelled-bytes s)) (s .reads)) h in
+    let x = reads-as (length es) (take (lengthOf a) bs′) (fourOf c)
+    (subst (λ (t : List ℕ). IsAccepted t (fourOf c)) (sym (spelled-bytes s)) (s .reads)) h in
     (g .number ∙ x .0, g .four ∙ x .1)
 
 module _ (text : List ℕ) (c : Chord) (w : List ℕ) (b : ReadAndWritten text c w) where
@@ -79,7 +81,8 @@ module _ (text : List ℕ) (c : Chord) (w : List ℕ) (b : ReadAndWritten text c
 
 pub write-then-read : WriteThenRead
 write-then-read text c w b es es′ r h g =
-    let a = subst (λ (t : List ℕ). IsAccepted t (fourOf c)) (sym (back-spelled text c w b)) (respelled text (fourOf c) (back-accepted text c w b)) in
+    let a = subst (λ (t : List ℕ). IsAccepted t (fourOf c)) (sym (back-spelled text c w b))
+    (respelled text (fourOf c) (back-accepted text c w b)) in
     let x = reads-as (length es) w (fourOf c) a h in
     (g .number ∙ x .0, g .chord ∙ ap recordOf (x .1) ∙ sym (back-whole text c w b))
 
@@ -96,7 +99,8 @@ same-spelling t u c d v w a b =
 -- ---- C
 
 -- bytes that hold an accepted text's four are written with 0
-c-writes : (text cs : List ℕ) (f : Four) → fourIn cs ≡ some f → IsAccepted text f → (bs bs′ : List ℕ) (l l′ r : ℕ) → 112 ≤ length bs → C.Write cs bs bs′ l l′ r → r ≡ 0
+c-writes : (text cs : List ℕ) (f : Four) → fourIn cs ≡ some f → IsAccepted text f → (bs bs′ : List ℕ) (l l′ r : ℕ) → 112 ≤ length bs
+    → C.Write cs bs bs′ l l′ r → r ≡ 0
 c-writes text cs f q t bs bs′ l l′ r h w =
     let n = c-write-numbered cs bs bs′ l l′ r w in
     n .nought (λ e. let z = n .six .0 e in omega (arith, z, h)) (λ e. subst NoText q (n .seven .0 e .1) (text, t))
@@ -144,7 +148,8 @@ module _ (text cs w : List ℕ) (b : C-trips.ReadAndWritten text cs w) where
 
   c-back-spelled : w ≡ house F
   c-back-spelled =
-      let x = c-read-then-write text (b .es) (b .es′) (b .c) (b .c′) (b .before) cs (b .read) (b .bs) (b .bs′) (b .l) (b .l′) (b .r) (b .room) (b .write) in
+      let x = c-read-then-write text (b .es) (b .es′) (b .c) (b .c′) (b .before) cs (b .read) (b .bs) (b .bs′) (b .l) (b .l′) (b .r)
+      (b .room) (b .write) in
       b .bytes ∙ spelled-bytes (x .1)
 
 pub c-write-then-read : C-trips.WriteThenRead

@@ -1,6 +1,5 @@
--- Writings: the two questions in their order, by the writer's way back from an outcome; then what `Written` of the writer and `Write` of the C boundary
--- say of it. What a test decides is whether there is a text.
--- Assumes nothing.
+-- Writings: the two questions in their order, by the writer's way back from an outcome; then what `Written` of the writer and `Write` of
+-- the C boundary say of it. What a test decides is whether there is a text. Assumes nothing.
 use mathlib.Core.Bool.{Bool, true, false, true≢false, cond, _&&_}
 use mathlib.Core.List.{List, [], _++_}
 use mathlib.Core.Logic.{_↔_}
@@ -58,7 +57,8 @@ module _ (f : Four) (d : (realizable f ≡ true) ↔ HasText f) where
       }
 
 -- the outcome of a four that was written
-untold : {o : Outcome} → (o .number ≡ 0 → ⊥) → (o .bytes ≡ []) × (o .length ≡ 0) → (bs : List ℕ) → o .bytes ++ drop (length (o .bytes)) bs ≡ bs
+untold : {o : Outcome} → (o .number ≡ 0 → ⊥) → (o .bytes ≡ []) × (o .length ≡ 0) → (bs : List ℕ)
+    → o .bytes ++ drop (length (o .bytes)) bs ≡ bs
 untold n e bs = ap (λ (q : List ℕ). q ++ drop (length q) bs) (e .0)
 
 nothing : (f : Four) {o : Outcome} → Way f o → (o .number ≡ 0 → ⊥) → (o .bytes ≡ []) × (o .length ≡ 0)
@@ -66,7 +66,8 @@ nothing f (has e) n = absurd (n refl)
 nothing f (lacks e) n = (refl, refl)
 
 -- what stands in the buffer where the spelling of f was written
-pub spelt : (f : Four) (bs bs′ : List ℕ) (n : ℕ) {o : Outcome} → o ≡ spelled (house f) → IsAccepted (house f) f → 112 ≤ length bs → n ≡ o .length
+pub spelt : (f : Four) (bs bs′ : List ℕ) (n : ℕ) {o : Outcome} → o ≡ spelled (house f) → IsAccepted (house f) f → 112 ≤ length bs
+    → n ≡ o .length
     → bs′ ≡ o .bytes ++ drop (length (o .bytes)) bs → Spelled f bs bs′ n
 spelt f bs bs′ n {o} e a h l b =
     let t = house f in
@@ -84,7 +85,8 @@ spelt f bs bs′ n {o} e a h l b =
 -- the written bytes are the spelling
 pub spelled-bytes : {f : Four} {bs bs′ : List ℕ} {n : ℕ} → Spelled f bs bs′ n → take n bs′ ≡ house f
 spelled-bytes {f} {bs} {bs′} {n} s =
-    (λ i. take (s .size i) (s .buffer i)) ∙ ap (λ (j : ℕ). take (length (house f)) (house f ++ drop j bs)) (s .size) ∙ take-append-seam (house f) (drop (length (house f)) bs)
+    (λ i. take (s .size i) (s .buffer i)) ∙ ap (λ (j : ℕ). take (length (house f)) (house f ++ drop j bs)) (s .size)
+    ∙ take-append-seam (house f) (drop (length (house f)) bs)
 
 -- ---- `writer::write`
 
@@ -110,10 +112,12 @@ module _ (c : Chord) where
   unwritten room (enough h) n = nothing (fourOf c) (way (fourOf c)) n
 
 pub write-numbered : WriteNumbered
-write-numbered c bs bs′ a g = subst (Numbered (length bs) (some (fourOf c))) (sym (g .number)) (numbered c (length bs) (asked-first (length bs) (fourOf c)))
+write-numbered c bs bs′ a g = subst (Numbered (length bs) (some (fourOf c))) (sym (g .number))
+    (numbered c (length bs) (asked-first (length bs) (fourOf c)))
 
 pub write-spelled : WriteSpelled
-write-spelled c bs bs′ a g e = written c bs bs′ (lengthOf a) (asked-first (length bs) (fourOf c)) (sym (g .number) ∙ e) (g .size) (g .buffer)
+write-spelled c bs bs′ a g e = written c bs bs′ (lengthOf a) (asked-first (length bs) (fourOf c)) (sym (g .number) ∙ e) (g .size)
+    (g .buffer)
 
 pub write-untouched : WriteUntouched
 write-untouched c bs bs′ a g n =
@@ -158,7 +162,8 @@ module _ (cs : List ℕ) where
         nought = λ a b. absurd (b refl);
       }
   c-numbered room (C-answers.within h q) =
-      subst (λ (x : Option Four). Numbered room x (answerTo (valuesIn cs) .number)) (sym q) (answered-numbers (valuesIn cs) decided-in room h)
+      subst (λ (x : Option Four). Numbered room x (answerTo (valuesIn cs) .number)) (sym q)
+      (answered-numbers (valuesIn cs) decided-in room h)
 
   c-written : (bs bs′ : List ℕ) (n : ℕ) {o : Outcome} → C-answers.Asked (length bs) cs o → o .number ≡ 0 → n ≡ o .length
       → bs′ ≡ o .bytes ++ drop (length (o .bytes)) bs → (fourIn cs ≡ some (valuesIn cs)) × Spelled (valuesIn cs) bs bs′ n

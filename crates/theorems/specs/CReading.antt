@@ -1,5 +1,6 @@
--- What document 01 says of every reading, of `nophtris_read`: for any text and any memory that it is lent. The only premise is the contract of the
--- function, `Read`: of the text it answered r; the list was es and is es′, the count c and c′, the 51 bytes of the record cs and cs′.
+-- What document 01 says of every reading, of `nophtris_read`: for any text and any memory that it is lent. The only premise is the
+-- contract of the function, `Read`: of the text it answered r; the list was es and is es′, the count c and c′, the 51 bytes of the record
+-- cs and cs′.
 use mathlib.Core.List.{List}
 use mathlib.Core.Option.{some}
 use mathlib.Core.Path.{_≡_}
@@ -21,7 +22,8 @@ ReadErrors = (text es es′ : List ℕ) (c c′ : ℕ) (cs cs′ : List ℕ) (r 
 abbrev pub ReadUntouched : Type 0
 ReadUntouched = (text es es′ : List ℕ) (c c′ : ℕ) (cs cs′ : List ℕ) (r : ℕ) → Read text es es′ c c′ cs cs′ r → r ≤ 3 → (es′ ≡ es) × (c′ ≡ c)
 
--- "The record read from an accepted text has its four": the bytes that reading fills are 51, and hold them; with any other number they are as they were
+-- "The record read from an accepted text has its four": the bytes that reading fills are 51, and hold them; with any other number they
+-- are as they were
 abbrev pub ReadRecord : Type 0
 ReadRecord =
     (text es es′ : List ℕ) (c c′ : ℕ) (cs cs′ : List ℕ) (r : ℕ) → Read text es es′ c c′ cs cs′ r

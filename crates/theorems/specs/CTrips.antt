@@ -40,15 +40,16 @@ WriteThenRead =
     → (es es′ : List ℕ) (c c′ : ℕ) (ds ds′ : List ℕ) (r : ℕ) → 1028 ≤ length es → Read w es es′ c c′ ds ds′ r
     → (r ≡ 0) × (ds′ ≡ cs)
 
--- the same of any 51 bytes that were written, wherever they came from: the bytes that reading fills in hold the same four (they may be other
--- bytes, since the numbers behind the count are not looked at, and reading fills in 0)
+-- the same of any 51 bytes that were written, wherever they came from: the bytes that reading fills in hold the same four (they may be
+-- other bytes, since the numbers behind the count are not looked at, and reading fills in 0)
 abbrev pub AnyWrittenThenRead : Type 0
 AnyWrittenThenRead =
     (cs bs bs′ : List ℕ) (l l′ : ℕ) → Write cs bs bs′ l l′ 0
     → (es es′ : List ℕ) (c c′ : ℕ) (ds ds′ : List ℕ) (r : ℕ) → 1028 ≤ length es → Read (take l′ bs′) es es′ c c′ ds ds′ r
     → (r ≡ 0) × (fourIn ds′ ≡ fourIn cs)
 
--- "Two accepted texts have the same house spelling exactly when they have the same four", and exactly when they were read into the same bytes
+-- "Two accepted texts have the same house spelling exactly when they have the same four", and exactly when they were read into the same
+-- bytes
 abbrev pub SameSpelling : Type 0
 SameSpelling =
     (t u cs ds v w : List ℕ) → ReadAndWritten t cs v → ReadAndWritten u ds w

@@ -1,5 +1,5 @@
--- What document 01 says of every writing, of `nophtris_write`: for any 51 bytes and any memory that it is lent. The only premise is the contract of
--- the function, `Write`: of the bytes cs it answered r; the buffer was bs and is bs′, the length l and l′.
+-- What document 01 says of every writing, of `nophtris_write`: for any 51 bytes and any memory that it is lent. The only premise is the
+-- contract of the function, `Write`: of the bytes cs it answered r; the buffer was bs and is bs′, the length l and l′.
 use mathlib.Core.List.{List}
 use mathlib.Core.Option.{some}
 use mathlib.Core.Path.{_≡_}
@@ -14,7 +14,8 @@ use Rattle.theorems.specs.Writing.{Numbered, Spelled}
 abbrev pub WriteNumbered : Type 0
 WriteNumbered = (cs bs bs′ : List ℕ) (l l′ r : ℕ) → Write cs bs bs′ l l′ r → Numbered (length bs) (fourIn cs) r
 
--- "A written spelling fills its own bytes only and its length is returned": with 0 the bytes hold a four, and its house spelling was written
+-- "A written spelling fills its own bytes only and its length is returned": with 0 the bytes hold a four, and its house spelling was
+-- written
 abbrev pub WriteSpelled : Type 0
 WriteSpelled = (cs bs bs′ : List ℕ) (l l′ : ℕ) → Write cs bs bs′ l l′ 0 → (f : Four) × (fourIn cs ≡ some f) × Spelled f bs bs′ l′
 

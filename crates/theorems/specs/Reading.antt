@@ -1,5 +1,6 @@
--- What document 01 says of every reading, of `reader::read`: for any text and any lent list, es before it and es′ after it. The only premise is the
--- contract of the function, `Read`. What is said of a number, of errors and of a four is said once, for the C boundary too (`CReading`).
+-- What document 01 says of every reading, of `reader::read`: for any text and any lent list, es before it and es′ after it. The only
+-- premise is the contract of the function, `Read`. What is said of a number, of errors and of a four is said once, for the C boundary too
+-- (`CReading`).
 use mathlib.Core.List.{List, [], _++_}
 use mathlib.Core.Logic.{_↔_}
 use mathlib.Core.Path.{_≡_}
@@ -46,7 +47,8 @@ pub record Numbered (room : ℕ) (text : List ℕ) (n : ℕ) : Type 0 where
   -- "Did parsing find no error? No: 4"
   pub four : (n ≡ 4) ↔ ((1028 ≤ room) × (length text ≤ 256) × WellFormed text × (1 ≤ length (parseErrors text)))
   -- "Did validation find no error? No: 5"
-  pub five : (n ≡ 5) ↔ ((1028 ≤ room) × (length text ≤ 256) × WellFormed text × (parseErrors text ≡ []) × (1 ≤ length (validationErrors text)))
+  pub five : (n ≡ 5) ↔
+      ((1028 ≤ room) × (length text ≤ 256) × WellFormed text × (parseErrors text ≡ []) × (1 ≤ length (validationErrors text)))
   -- "A text is accepted when each question put to a card gets yes, given an error list that is long enough."
   pub nought : (n ≡ 0) ↔ ((1028 ≤ room) × IsAccepted text (fourOfText text))
   pub most : n ≤ 5
@@ -79,12 +81,13 @@ ReadErrors = (text es es′ : List ℕ) (r : Reading) → Read text es es′ r �
 
 -- "Numbers 1, 2, 3 .. and an accepted text leave the lent memory untouched."
 abbrev pub ReadUntouched : Type 0
-ReadUntouched = (text es es′ : List ℕ) (r : Reading) → Read text es es′ r → numberOf (r .answer) ≤ 3 → (es′ ≡ es) × (countOf (r .answer) ≡ 0)
+ReadUntouched = (text es es′ : List ℕ) (r : Reading) → Read text es es′ r → numberOf (r .answer) ≤ 3
+    → (es′ ≡ es) × (countOf (r .answer) ≡ 0)
 
 -- ---- the record
 
--- "The record read from an accepted text has its four", it is the whole record of them, and its root is a note; any other text gets the record of
--- no chord
+-- "The record read from an accepted text has its four", it is the whole record of them, and its root is a note; any other text gets the
+-- record of no chord
 abbrev pub ReadRecord : Type 0
 ReadRecord =
     (text es es′ : List ℕ) (r : Reading) → Read text es es′ r

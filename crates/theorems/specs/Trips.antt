@@ -1,5 +1,5 @@
--- Demand 3, of `reader::read` and `writer::write`: a text that is read and written back, and what was written, read again. The only premises are
--- the contracts of the two functions.
+-- Demand 3, of `reader::read` and `writer::write`: a text that is read and written back, and what was written, read again. The only
+-- premises are the contracts of the two functions.
 use mathlib.Core.List.{List}
 use mathlib.Core.Logic.{_↔_}
 use mathlib.Core.Path.{_≡_}
@@ -15,8 +15,8 @@ use Rattle.writer.specs.State.{Written}
 use Rattle.writer.specs.Writer.{lengthOf, numberOf}
 use Rattle.writer.specs.declared.Answer.{Answer}
 
--- "Every accepted text has a spelling of at most 112 bytes"; "writing that record gives its house spelling, whatever buffer of at least 112 bytes is
--- lent": what was read with 0 is written with 0, and its house spelling stands in the buffer.
+-- "Every accepted text has a spelling of at most 112 bytes"; "writing that record gives its house spelling, whatever buffer of at least
+-- 112 bytes is lent": what was read with 0 is written with 0, and its house spelling stands in the buffer.
 abbrev pub ReadThenWrite : Type 0
 ReadThenWrite =
     (text es es′ : List ℕ) (r : Reading) → Read text es es′ r → reader.numberOf (r .answer) ≡ 0
@@ -52,8 +52,8 @@ AnyWrittenThenRead =
     → (es es′ : List ℕ) (r : Reading) → 1028 ≤ length es → Read (take (lengthOf a) bs′) es es′ r
     → (reader.numberOf (r .answer) ≡ 0) × (fourOf (r .chord) ≡ fourOf c)
 
--- "Two accepted texts have the same house spelling exactly when they have the same four (root, bass, normalized set, display list)", and so the
--- same record
+-- "Two accepted texts have the same house spelling exactly when they have the same four (root, bass, normalized set, display list)", and
+-- so the same record
 abbrev pub SameSpelling : Type 0
 SameSpelling =
     (t u : List ℕ) (c d : Chord) (v w : List ℕ) → ReadAndWritten t c v → ReadAndWritten u d w

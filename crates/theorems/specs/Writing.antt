@@ -1,5 +1,6 @@
--- What document 01 says of every writing, of `writer::write`: for any record c and any lent buffer, bs before it and bs′ after it. The only premise
--- is the contract of the function, `Written`. What is said of a number and of a spelling is said once, for the C boundary too (`CWriting`).
+-- What document 01 says of every writing, of `writer::write`: for any record c and any lent buffer, bs before it and bs′ after it. The
+-- only premise is the contract of the function, `Written`. What is said of a number and of a spelling is said once, for the C boundary
+-- too (`CWriting`).
 use mathlib.Core.List.{List, _++_}
 use mathlib.Core.Logic.{_↔_}
 use mathlib.Core.Option.{Option, none, some}

@@ -1,6 +1,5 @@
--- The two questions put to a record, by their answers: what each makes the outcome, from the outcome back to them, and that the code gave it.
--- Every theorem on a writing goes by these.
--- Assumes nothing.
+-- The two questions put to a record, by their answers: what each makes the outcome, from the outcome back to them, and that the code gave
+-- it. Every theorem on a writing goes by these. Assumes nothing.
 use mathlib.Core.Bool.{Bool, true, false, not, cond}
 use mathlib.Core.List.{List, []}
 use mathlib.Core.Logic.{_↔_}

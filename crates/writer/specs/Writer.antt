@@ -36,8 +36,8 @@ refused n = record { number = n; length = 0; bytes = [] }
 abbrev pub spelled : List ℕ → Outcome
 spelled t = record { number = 0; length = length t; bytes = t }
 
--- the answer to a record, given a buffer that is long enough: "Has some accepted text exactly these four? No: 7." (`realizable` is that question
--- as a test.)
+-- the answer to a record, given a buffer that is long enough: "Has some accepted text exactly these four? No: 7." (`realizable` is that
+-- question as a test.)
 abbrev pub answerTo : Four → Outcome
 answerTo f = cond (realizable f) (spelled (house f)) (refused 7)
 

@@ -42,7 +42,8 @@ cast-size c =
     let b5 = c .before .before .before .before .before in
     let b7 = b5 .before .before in
     let a = b7 .before .before .before .before .before .before .before .args in
-    let k = subst (λ (x : Written). lengthOf x ≤ 112) (c .before .n .given .1) (spelled-few (length (a .buffer .now)) (fourOf (b7 .decode .result)) (b5 .write .ensures)) in
+    let k = subst (λ (x : Written). lengthOf x ≤ 112) (c .before .n .given .1)
+    (spelled-few (length (a .buffer .now)) (fourOf (b7 .decode .result)) (b5 .write .ensures)) in
     omega (arith, k)
 
 enum-told : tie.Need-enum-told

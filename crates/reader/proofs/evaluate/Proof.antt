@@ -35,7 +35,8 @@ returns c =
     let l = map expOf (a .exps .now) in
     let v = c .before .before .before .before .validate in
     let w = subst (λ (q : Set). Wrote 0 (v .result) (validationOf l q) (a .errs .now) (v .last .1 .1 .0)) (c .before .before .before .before .before .before .before .evaluate .ensures .set) (v .ensures .0) in
-    gave-errors (validationOf l (evalSet l)) 5 _ (v .result) (c .before .if1 .taken) (omega (arith, w .count)) (w .list) (w .rest) (ap numberOf (c .refuse .ensures .0)) (ap countOf (c .refuse .ensures .0)) (c .refuse .ensures .1) (c .refuse .ensures .2)
+    gave-errors (validationOf l (evalSet l)) 5 _ (v .result) (c .before .if1 .taken) (omega (arith, w .count)) (w .list) (w .rest)
+    (ap numberOf (c .refuse .ensures .0)) (ap countOf (c .refuse .ensures .0)) (c .refuse .ensures .1) (c .refuse .ensures .2)
 
 same-length-2 : tie.Need-same-length-2
 same-length-2 c = search needs
@@ -50,7 +51,13 @@ returns-2 c =
     let w = subst (λ (q : Set). Wrote 0 (v .result) (validationOf l q) (a .errs .now) (v .last .1 .1 .0)) (e .set) (v .ensures .0) in
     let z : v .result ≡ 0 = omega (arith, c .before .if1 .left) in
     gave-none (validationOf l (evalSet l)) 5 (accepted (a .root) l) (omega (arith, z, w .count))
-    (record { number = refl; count = refl; four = λ i. record { root = a .root; bass = e .bass i; normalized = e .set i; display = e .display i }; chord = λ i. record { root = a .root; bass = e .bass i; normalized = e .whole i; display = e .list i }; list = untouched (v .result) z (w .rest) })
+    (record {
+      number = refl;
+      count = refl;
+      four = λ i. record { root = a .root; bass = e .bass i; normalized = e .set i; display = e .display i };
+      chord = λ i. record { root = a .root; bass = e .bass i; normalized = e .whole i; display = e .list i };
+      list = untouched (v .result) z (w .rest);
+    })
 
 pub evaluate-spec : {M : Type 1} → statement M
 evaluate-spec =

@@ -36,7 +36,10 @@ returns c =
     let ts = rows (a .kinds .now) (a .poss .now) (a .lens .now) in
     let p = c .before .before .before .before .before .parse in
     let n = p .result .errors in
-    gave-errors (parseOf ts .errs) 4 _ n (c .before .if1 .taken) (counted n (parseOf ts .errs) (p .last .1 .1 .1 .0) (omega (arith, p .ensures .few, p .kept, s .pre .1)) (p .ensures .errs)) (p .ensures .errs) (p .ensures .rest) (ap numberOf (c .refuse .ensures .0)) (ap countOf (c .refuse .ensures .0)) (c .refuse .ensures .1) (c .refuse .ensures .2)
+    gave-errors (parseOf ts .errs) 4 _ n (c .before .if1 .taken)
+    (counted n (parseOf ts .errs) (p .last .1 .1 .1 .0) (omega (arith, p .ensures .few, p .kept, s .pre .1)) (p .ensures .errs))
+    (p .ensures .errs) (p .ensures .rest) (ap numberOf (c .refuse .ensures .0)) (ap countOf (c .refuse .ensures .0))
+    (c .refuse .ensures .1) (c .refuse .ensures .2)
 
 array-share-prefix-exps : tie.Need-array-share-prefix-exps
 array-share-prefix-exps c = search needs

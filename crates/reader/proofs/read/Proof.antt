@@ -14,7 +14,8 @@ returns : tie.Need-returns
 returns c =
     let s = c .before .before .before .before in
     let a = s .args in
-    gave-refused (a .errs .now) (short-list (length (a .errs .now)) (a .text .now) (c .before .if1 .taken)) refl refl (c .refuse .ensures .0) (c .refuse .ensures .1) (c .refuse .ensures .2)
+    gave-refused (a .errs .now) (short-list (length (a .errs .now)) (a .text .now) (c .before .if1 .taken)) refl refl
+    (c .refuse .ensures .0) (c .refuse .ensures .1) (c .refuse .ensures .2)
 
 refuse-requires-2 : tie.Need-refuse-requires-2
 refuse-requires-2 c κs = search needs
@@ -24,7 +25,8 @@ returns-2 c =
     let s = c .before .before .before .before .before in
     let a = s .args in
     let o = long-list (length (a .errs .now)) (a .text .now) (c .before .before .if1 .left) in
-    gave-refused (a .errs .now) (o ∙ long-text (a .text .now) (c .before .if2 .taken)) refl refl (c .refuse2 .ensures .0) (c .refuse2 .ensures .1) (c .refuse2 .ensures .2)
+    gave-refused (a .errs .now) (o ∙ long-text (a .text .now) (c .before .if2 .taken)) refl refl (c .refuse2 .ensures .0)
+    (c .refuse2 .ensures .1) (c .refuse2 .ensures .2)
 
 well-formed-requires : tie.Need-well-formed-requires
 well-formed-requires c κs = search needs
@@ -54,7 +56,8 @@ returns-4 c =
     let o = long-list (length (a .errs .now)) (a .text .now) (c .before .before .before .before .before .before .before .if1 .left) in
     let w = c .before .before .before .before .before .well-formed in
     let u = sym (w .ensures) ∙ yes (w .result) (c .before .before .before .before .if3 .left) in
-    gave-same (o ∙ is-text (a .text .now) (c .before .before .before .before .before .before .if2 .left) u) (c .before .before .read-text .ensures)
+    gave-same (o ∙ is-text (a .text .now) (c .before .before .before .before .before .before .if2 .left) u)
+    (c .before .before .read-text .ensures)
 
 pub read-spec : {M : Type 1} → statement M
 read-spec =

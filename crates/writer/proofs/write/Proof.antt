@@ -19,7 +19,8 @@ has-text-requires c κs = search needs
 returns-2 : tie.Need-returns-2
 returns-2 c =
     let a = c .before .before .before .before .args in
-    gave-no-text (fourOf (a .chord)) (a .buffer .now) (c .before .before .if1 .left) (is-test (a .chord) (c .before .has-text .result) (c .before .has-text .ensures) ∙ negated _ _ (c .if2 .taken))
+    gave-no-text (fourOf (a .chord)) (a .buffer .now) (c .before .before .if1 .left)
+    (is-test (a .chord) (c .before .has-text .result) (c .before .has-text .ensures) ∙ negated _ _ (c .if2 .taken))
 
 spell-requires : tie.Need-spell-requires
 spell-requires c κs = search needs
@@ -31,7 +32,9 @@ returns-3 : tie.Need-returns-3
 returns-3 c =
     let a = c .before .before .before .before .before .before .before .before .args in
     let t = c .before .before .before .before .before .has-text in
-    gave-spelled (fourOf (a .chord)) (a .buffer .now) (c .before .before .before .before .before .before .if1 .left) (is-test (a .chord) (t .result) (t .ensures) ∙ negated _ _ (c .before .before .before .before .if2 .left)) (c .before .before .spell .ensures)
+    gave-spelled (fourOf (a .chord)) (a .buffer .now) (c .before .before .before .before .before .before .if1 .left)
+    (is-test (a .chord) (t .result) (t .ensures) ∙ negated _ _ (c .before .before .before .before .if2 .left))
+    (c .before .before .spell .ensures)
 
 pub write-spec : {M : Type 1} → statement M
 write-spec =

@@ -14,7 +14,8 @@ use Rattle.validator.proofs.semitones.has_neighbours.Statement.{stateme
 use Rattle.validator.proofs.semitones.has_neighbours.Tie as tie
 
 abbrev Inv-loop : tie.InvT-loop
-Inv-loop lasts k₀ k = (k ≤ 12) × (isNil (allFrom (neighboursIn (lastsOf lasts)) 12 0) ≡ isNil (allFrom (neighboursIn (lastsOf lasts)) (12 - k) k))
+Inv-loop lasts k₀ k = (k ≤ 12)
+    × (isNil (allFrom (neighboursIn (lastsOf lasts)) 12 0) ≡ isNil (allFrom (neighboursIn (lastsOf lasts)) (12 - k) k))
 
 abbrev μ-loop : tie.MeasureT-loop
 μ-loop lasts k₀ k = 12 - k
@@ -37,8 +38,10 @@ returns c =
     let last = lastsOf (c .before .before .before .before .before .before .before .last-of-class .result) in
     let s = members (c .before .before .before .before .before .before .before .before .args .set) in
     let i = c .before .before .before .before .before .before .loop .k in
-    let e = c .before .before .before .before .before .before .loop .inv .1 ∙ ap isNil (all-next (neighboursIn last) 12 i (c .before .before .before .before .before .loop-test .taken)) in
-    let n = some-found (c .before .before .neighbours-at .result) (allFrom (neighboursIn last) (12 - (i + 1)) (i + 1)) (c .before .before .neighbours-at .ensures) (sym (c .before .is-some .ensures) ∙ c .if1 .taken) in
+    let e = c .before .before .before .before .before .before .loop .inv .1
+    ∙ ap isNil (all-next (neighboursIn last) 12 i (c .before .before .before .before .before .loop-test .taken)) in
+    let n = some-found (c .before .before .neighbours-at .result) (allFrom (neighboursIn last) (12 - (i + 1)) (i + 1))
+    (c .before .before .neighbours-at .ensures) (sym (c .before .is-some .ensures) ∙ c .if1 .taken) in
     sym (ap not (sym (ap isNil (semitones-same last s (c .before .before .before .before .before .before .before .last-of-class .ensures))) ∙ e ∙ n))
 
 add-k : tie.Need-add-k Inv-loop μ-loop

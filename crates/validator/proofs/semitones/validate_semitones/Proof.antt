@@ -14,7 +14,8 @@ use mathlib.Core.Path.{_≡_, refl, ap, _∙_}
 use native.Mathlib.Omega.{arith}
 
 abbrev Inv-loop : tie.InvT-loop
-Inv-loop errs₀ n lasts m₀ c₀ errs m c = Wrote n m (allFrom (neighboursIn (lastsOf lasts)) c 0) errs₀ errs × (c ≤ 12) × (m ≤ n + c) × (length errs ≡ length errs₀)
+Inv-loop errs₀ n lasts m₀ c₀ errs m c = Wrote n m (allFrom (neighboursIn (lastsOf lasts)) c 0) errs₀ errs × (c ≤ 12) × (m ≤ n + c)
+    × (length errs ≡ length errs₀)
 
 abbrev μ-loop : tie.MeasureT-loop
 μ-loop errs₀ n lasts m₀ c₀ errs m c = 12 - c
@@ -41,8 +42,16 @@ loop-again : tie.Need-loop-again Inv-loop μ-loop
 unfolding lastsOf
 loop-again c =
     let v = c .before .before .before .before .before .before .before .before .loop .inv in
-    let w = c .before .before .push .ensures in
-    (wrote-as (all-step (neighboursIn (lastsOf (c .before .before .before .before .before .before .before .before .before .last-of-class .result))) (c .before .before .before .before .before .before .before .before .loop .c)) (wrote-then (v .0) (wrote-as (c .before .before .before .neighbours-at .ensures) (w .0))), omega (arith, c .before .before .before .before .before .before .before .loop-test .taken), omega (arith, v .2, w .1), omega (arith, v .3, c .before .before .push .kept))
+    let w = c .before .before .push .ensures in (
+      wrote-as
+          (all-step
+          (neighboursIn (lastsOf (c .before .before .before .before .before .before .before .before .before .last-of-class .result)))
+          (c .before .before .before .before .before .before .before .before .loop .c))
+          (wrote-then (v .0) (wrote-as (c .before .before .before .neighbours-at .ensures) (w .0))),
+      omega (arith, c .before .before .before .before .before .before .before .loop-test .taken),
+      omega (arith, v .2, w .1),
+      omega (arith, v .3, c .before .before .push .kept),
+    )
 
 same-length : tie.Need-same-length Inv-loop μ-loop
 same-length c = search needs
@@ -51,8 +60,12 @@ returns : tie.Need-returns Inv-loop μ-loop
 returns c =
     let v = c .before .loop .inv in
     let l = lastsOf (c .before .before .last-of-class .result) in
-    let e : c .before .loop .c ≡ 12 = omega (arith, v .1, c .loop-test .left) in
-    (wrote-as (ap (λ (k : ℕ). allFrom (neighboursIn l) k 0) e ∙ semitones-same l (members (c .before .before .before .before .args .set)) (c .before .before .last-of-class .ensures)) (v .0), omega (arith, v .1, v .2))
+    let e : c .before .loop .c ≡ 12 = omega (arith, v .1, c .loop-test .left) in (
+      wrote-as
+          (ap (λ (k : ℕ). allFrom (neighboursIn l) k 0) e
+          ∙ semitones-same l (members (c .before .before .before .before .args .set)) (c .before .before .last-of-class .ensures)) (v .0),
+      omega (arith, v .1, v .2),
+    )
 
 pub validate-semitones-spec : {M : Type 1} → statement M
 validate-semitones-spec =
