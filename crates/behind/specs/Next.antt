@@ -97,11 +97,11 @@ isEnd Eof = true
 isEnd Other = false
 
 -- `expect_note`: the note that begins here, with the sign behind it
-abbrev pub noteIn : Next → RootModifier → OptionalNote
-noteIn (Note l) m = optional.Some (record { literal = l; modifier = m })
-noteIn Sharp m = optional.None
-noteIn Flat m = optional.None
-noteIn (Extension n) m = optional.None
-noteIn Maj7 m = optional.None
-noteIn Eof m = optional.None
-noteIn Other m = optional.None
+abbrev pub noteFrom : Next → RootModifier → OptionalNote
+noteFrom (Note l) m = optional.Some (record { literal = l; modifier = m })
+noteFrom Sharp m = optional.None
+noteFrom Flat m = optional.None
+noteFrom (Extension n) m = optional.None
+noteFrom Maj7 m = optional.None
+noteFrom Eof m = optional.None
+noteFrom Other m = optional.None

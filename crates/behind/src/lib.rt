@@ -1,6 +1,6 @@
 // What a token behind the one that is read can be to it, and the three that it can ask for.
 ghost use mathlib.Core.Path.{_≡_};
-ghost use Rattle.behind.specs.Next.{nextOf, numberIn, isNumber, signIn, isSign, isMaj7, isEnd, noteIn};
+ghost use Rattle.behind.specs.Next.{nextOf, numberIn, isNumber, signIn, isSign, isMaj7, isEnd, noteFrom};
 use chord::note::Note;
 use chord::note::NoteLiteral;
 use chord::note::OptionalNote;
@@ -128,7 +128,7 @@ impl Next {
 
     // The note that begins here, with the sign of the token behind it.
     pub fn note(self, modifier: RootModifier) -> OptionalNote
-        ensures { λ r. ⌜ r ≡ noteIn self modifier ⌝ }
+        ensures { λ r. ⌜ r ≡ noteFrom self modifier ⌝ }
     {
         match self {
             Next::Note(literal) => OptionalNote::Some(Note { literal, modifier }),

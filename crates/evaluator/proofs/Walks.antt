@@ -13,7 +13,7 @@ use Rattle.chord.specs.declared.note.OptionalNote.{OptionalNote}
 use Rattle.expression.specs.Expression.{expOf}
 use Rattle.expression.specs.declared.expression.Exp.{Exp}
 use Rattle.evaluator.specs.Display.{firstSus, susOf}
-use Rattle.evaluator.specs.Evaluator.{addBy, alterBy, any, applyForm, applySus, baseForm, bassOf, direct, evalSet, extAt, formAt, implied, isMaj, isMajor, isSus4, maxExt, omitBy, prune11, prune6, seed, slashBass, walk}
+use Rattle.evaluator.specs.Evaluator.{addBy, alterBy, any, applyForm, applySus, baseForm, bassOf, direct, evalSet, extAt, formAt, implied, isMaj, isMajor, isSus4, maxExt, omitBy, prune11, prune6, seed, slashBass, foldLeft}
 use Rattle.evaluator.specs.State.{Described, Seen}
 use Rattle.evaluator.specs.declared.ast.BaseForm.{BaseForm}
 use Rattle.evaluator.specs.declared.evaluator.Descriptor.{Descriptor}
@@ -29,27 +29,27 @@ pub from-none : (xs : List ℕ) (i : ℕ) → length xs ≤ i → from i xs ≡ 
 from-none xs i h = ap (map expOf) (drop-of-length-le xs {i = i} h)
 
 -- a stage takes one more
-pub walk-turn : (f : Set → Exp → Set) (s t : Set) (xs : List ℕ) (i : ℕ) → i < length xs → t ≡ f s (expOf (getD xs i 0)) → walk f t (from (suc i) xs) ≡ walk f s (from i xs)
-walk-turn f s t xs i h e = ap (λ (q : Set). walk f q (from (suc i) xs)) e ∙ sym (ap (λ (l : List Exp). walk f s l) (from-next xs i h))
+pub walk-turn : (f : Set → Exp → Set) (s t : Set) (xs : List ℕ) (i : ℕ) → i < length xs → t ≡ f s (expOf (getD xs i 0)) → foldLeft f t (from (suc i) xs) ≡ foldLeft f s (from i xs)
+walk-turn f s t xs i h e = ap (λ (q : Set). foldLeft f q (from (suc i) xs)) e ∙ sym (ap (λ (l : List Exp). foldLeft f s l) (from-next xs i h))
 
 -- d has seen some expressions, and l′ are still to come, of l in all
 pub record Remains (l l′ : List Exp) (d : Descriptor) : Type 0 where
-  pub set : walk direct (members (d .set)) l′ ≡ walk direct seed l
-  pub form : walk formAt (d .form) l′ ≡ baseForm l
+  pub set : foldLeft direct (members (d .set)) l′ ≡ foldLeft direct seed l
+  pub form : foldLeft formAt (d .form) l′ ≡ baseForm l
   pub sus : (d .sus || any isSus4 l′) ≡ any isSus4 l
   pub maj : (d .maj || any isMaj l′) ≡ any isMaj l
-  pub ext : walk extAt (d .tallest) l′ ≡ maxExt l
-  pub bass : walk bassOf (d .bass) l′ ≡ slashBass l
+  pub ext : foldLeft extAt (d .tallest) l′ ≡ maxExt l
+  pub bass : foldLeft bassOf (d .bass) l′ ≡ slashBass l
 
 pub remains-all : (l : List Exp) (d : Descriptor) → Described [] d → Remains l l d
 remains-all l d h =
     record {
-      set = ap (λ (s : Set). walk direct s l) (h .set);
-      form = ap (λ (f : BaseForm). walk formAt f l) (h .form);
+      set = ap (λ (s : Set). foldLeft direct s l) (h .set);
+      form = ap (λ (f : BaseForm). foldLeft formAt f l) (h .form);
       sus = ap (λ (b : Bool). b || any isSus4 l) (h .sus);
       maj = ap (λ (b : Bool). b || any isMaj l) (h .maj);
-      ext = ap (λ (n : ℕ). walk extAt n l) (h .ext);
-      bass = ap (λ (b : OptionalNote). walk bassOf b l) (h .bass);
+      ext = ap (λ (n : ℕ). foldLeft extAt n l) (h .ext);
+      bass = ap (λ (b : OptionalNote). foldLeft bassOf b l) (h .bass);
     }
 
 or-assoc : (a b c : Bool) → (a || b || c) ≡ (a || (b || c))
@@ -59,12 +59,12 @@ or-assoc false b c = refl
 pub remains-turn : {l l′ : List Exp} {d r : Descriptor} {e : Exp} → Remains l (e ∷ l′) d → Seen d e r → Remains l l′ r
 remains-turn {l} {l′} {d} {r} {e} h s =
     record {
-      set = ap (λ (q : Set). walk direct q l′) (s .set) ∙ h .set;
-      form = ap (λ (q : BaseForm). walk formAt q l′) (s .form) ∙ h .form;
+      set = ap (λ (q : Set). foldLeft direct q l′) (s .set) ∙ h .set;
+      form = ap (λ (q : BaseForm). foldLeft formAt q l′) (s .form) ∙ h .form;
       sus = ap (λ (q : Bool). q || any isSus4 l′) (s .sus) ∙ or-assoc (d .sus) (isSus4 e) (any isSus4 l′) ∙ h .sus;
       maj = ap (λ (q : Bool). q || any isMaj l′) (s .maj) ∙ or-assoc (d .maj) (isMaj e) (any isMaj l′) ∙ h .maj;
-      ext = ap (λ (q : ℕ). walk extAt q l′) (s .ext) ∙ h .ext;
-      bass = ap (λ (q : OptionalNote). walk bassOf q l′) (s .bass) ∙ h .bass;
+      ext = ap (λ (q : ℕ). foldLeft extAt q l′) (s .ext) ∙ h .ext;
+      bass = ap (λ (q : OptionalNote). foldLeft bassOf q l′) (s .bass) ∙ h .bass;
     }
 
 or-false : (a : Bool) → a ≡ (a || false)
@@ -88,14 +88,14 @@ sus-turn xs i {k} {k′} h e f = f ∙ ap (susOf (expOf (getD xs i 0))) e ∙ sy
 
 -- the stages one after another
 pub staged : (l : List Exp) {x₀ x₁ x₂ x₃ x₄ x₅ x₆ r : Set} {f : BaseForm} {sus major maj : Bool} {ext : ℕ}
-    → x₀ ≡ walk direct seed l → f ≡ baseForm l → sus ≡ any isSus4 l → maj ≡ any isMaj l → ext ≡ maxExt l
-    → x₁ ≡ applyForm f x₀ → x₂ ≡ applySus sus x₁ → x₃ ≡ walk alterBy x₂ l → major ≡ isMajor f → x₄ ≡ implied ext major maj x₃
-    → x₅ ≡ walk omitBy x₄ l → x₆ ≡ walk addBy x₅ l → r ≡ prune11 (prune6 x₆) → r ≡ evalSet l
+    → x₀ ≡ foldLeft direct seed l → f ≡ baseForm l → sus ≡ any isSus4 l → maj ≡ any isMaj l → ext ≡ maxExt l
+    → x₁ ≡ applyForm f x₀ → x₂ ≡ applySus sus x₁ → x₃ ≡ foldLeft alterBy x₂ l → major ≡ isMajor f → x₄ ≡ implied ext major maj x₃
+    → x₅ ≡ foldLeft omitBy x₄ l → x₆ ≡ foldLeft addBy x₅ l → r ≡ prune11 (prune6 x₆) → r ≡ evalSet l
 staged l h₀ hf hs hj he h₁ h₂ h₃ hm h₄ h₅ h₆ h₇ =
     let e₁ = h₁ ∙ (λ i. applyForm (hf i) (h₀ i)) in
     let e₂ = h₂ ∙ (λ i. applySus (hs i) (e₁ i)) in
-    let e₃ = h₃ ∙ (λ i. walk alterBy (e₂ i) l) in
+    let e₃ = h₃ ∙ (λ i. foldLeft alterBy (e₂ i) l) in
     let e₄ = h₄ ∙ (λ i. implied (he i) ((hm ∙ ap isMajor hf) i) (hj i) (e₃ i)) in
-    let e₅ = h₅ ∙ (λ i. walk omitBy (e₄ i) l) in
-    let e₆ = h₆ ∙ (λ i. walk addBy (e₅ i) l) in
+    let e₅ = h₅ ∙ (λ i. foldLeft omitBy (e₄ i) l) in
+    let e₆ = h₆ ∙ (λ i. foldLeft addBy (e₅ i) l) in
     h₇ ∙ (λ i. prune11 (prune6 (e₆ i)))

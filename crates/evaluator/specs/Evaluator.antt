@@ -13,9 +13,9 @@ use Rattle.evaluator.specs.declared.ast.BaseForm.the-variants as form
 use Rattle.evaluator.specs.declared.ast.BaseForm.{BaseForm}
 
 -- a list from left to right, one member of a list with a property, and a number in a list
-abbrev pub walk {ℓ κ} : {A : Type ℓ} {B : Type κ} → (B → A → B) → B → List A → B
-walk f b [] = b
-walk f b (a ∷ l) = walk f (f b a) l
+abbrev pub foldLeft {ℓ κ} : {A : Type ℓ} {B : Type κ} → (B → A → B) → B → List A → B
+foldLeft f b [] = b
+foldLeft f b (a ∷ l) = foldLeft f (f b a) l
 
 abbrev pub any {ℓ} : {A : Type ℓ} → (A → Bool) → List A → Bool
 any f [] = false
@@ -212,10 +212,10 @@ abbrev pub extAt : ℕ → Exp → ℕ
 extAt n e = max n (extOf e)
 
 abbrev pub baseForm : List Exp → BaseForm
-baseForm l = walk formAt form.Major l
+baseForm l = foldLeft formAt form.Major l
 
 abbrev pub maxExt : List Exp → ℕ
-maxExt l = walk extAt 0 l
+maxExt l = foldLeft extAt 0 l
 
 -- `apply_base_form`
 abbrev pub applyForm : BaseForm → Set → Set
@@ -293,29 +293,29 @@ prune11 s = cond (s majorThird && s eleventh) (removeThenAdd s eleventh perfectF
 
 -- the stages over a list of expressions: alterations, omits and adds in the order in which they were pushed
 abbrev pub alterBy : Set → Exp → Set
-alterBy s e = walk alter s (altsOf e)
+alterBy s e = foldLeft alter s (altsOf e)
 
 abbrev pub omitBy : Set → Exp → Set
-omitBy s e = walk omit s (omitsOf e)
+omitBy s e = foldLeft omit s (omitsOf e)
 
 abbrev pub addBy : Set → Exp → Set
-addBy s e = walk add s (addsOf e)
+addBy s e = foldLeft add s (addsOf e)
 
 -- the normalized set of a list of expressions
 abbrev pub evalSet : List Exp → Set
 evalSet l =
     prune11 (prune6
-    (walk addBy
-    (walk omitBy
+    (foldLeft addBy
+    (foldLeft omitBy
     (implied (maxExt l) (isMajor (baseForm l)) (any isMaj l)
-    (walk alterBy
+    (foldLeft alterBy
     (applySus (any isSus4 l)
     (applyForm (baseForm l)
-    (walk direct seed l)))
+    (foldLeft direct seed l)))
     l))
     l)
     l))
 
 -- its slash bass: the last one
 abbrev pub slashBass : List Exp → OptionalNote
-slashBass l = walk bassOf optional.None l
+slashBass l = foldLeft bassOf optional.None l

@@ -10,7 +10,7 @@ use Rattle.expression.specs.Expression.{expOf}
 use Rattle.expression.specs.declared.expression.Exp.{Exp}
 use Rattle.step.specs.Bounds.{Sound}
 use Rattle.evaluator.specs.Display.{displayOf, firstSus}
-use Rattle.evaluator.specs.Evaluator.{any, baseForm, bassOf, direct, evalSet, extAt, formAt, isMaj, isSus4, maxExt, seed, slashBass, walk}
+use Rattle.evaluator.specs.Evaluator.{any, baseForm, bassOf, direct, evalSet, extAt, formAt, isMaj, isSus4, maxExt, seed, slashBass, foldLeft}
 use Rattle.evaluator.specs.declared.evaluator.Descriptor.{Descriptor}
 use Rattle.evaluator.specs.declared.evaluator.Evaluated.{Evaluated}
 
@@ -20,7 +20,7 @@ Sounds xs = (i : ℕ) → i < length xs → Sound (expOf (getD xs i 0))
 
 -- d is what the expressions l say before the stages
 pub record Described (l : List Exp) (d : Descriptor) : Type 0 where
-  pub set : members (d .set) ≡ walk direct seed l
+  pub set : members (d .set) ≡ foldLeft direct seed l
   pub form : d .form ≡ baseForm l
   pub sus : d .sus ≡ any isSus4 l
   pub maj : d .maj ≡ any isMaj l

@@ -5,7 +5,7 @@ ghost use mathlib.Core.Path.{_≡_};
 ghost use Rattle.chord.specs.Chord.{members};
 ghost use Rattle.expression.specs.Expression.{expOf};
 ghost use Rattle.evaluator.specs.Display.{firstSus};
-ghost use Rattle.evaluator.specs.Evaluator.{walk, alterBy, omitBy, addBy, evalSet};
+ghost use Rattle.evaluator.specs.Evaluator.{foldLeft, alterBy, omitBy, addBy, evalSet};
 ghost use Rattle.evaluator.specs.State.{Sounds, Described, Seen, Answered};
 use crate::ast::BaseForm;
 use crate::ast::form_of;
@@ -102,7 +102,7 @@ fn evaluate_expressions(exps: &[u32]) -> Descriptor
 
 fn apply_alterations(exps: &[u32], set: IntervalSet) -> IntervalSet
     requires { ⌜ Sounds (now exps) ⌝ }
-    ensures { λ r. ⌜ members r ≡ walk alterBy (members set) (map expOf (now (exps .entry))) ⌝ }
+    ensures { λ r. ⌜ members r ≡ foldLeft alterBy (members set) (map expOf (now (exps .entry))) ⌝ }
 {
     let mut s = set;
     let mut i = 0;
@@ -115,7 +115,7 @@ fn apply_alterations(exps: &[u32], set: IntervalSet) -> IntervalSet
 
 fn apply_omits(exps: &[u32], set: IntervalSet) -> IntervalSet
     requires { ⌜ Sounds (now exps) ⌝ }
-    ensures { λ r. ⌜ members r ≡ walk omitBy (members set) (map expOf (now (exps .entry))) ⌝ }
+    ensures { λ r. ⌜ members r ≡ foldLeft omitBy (members set) (map expOf (now (exps .entry))) ⌝ }
 {
     let mut s = set;
     let mut i = 0;
@@ -128,7 +128,7 @@ fn apply_omits(exps: &[u32], set: IntervalSet) -> IntervalSet
 
 fn apply_adds(exps: &[u32], set: IntervalSet) -> IntervalSet
     requires { ⌜ Sounds (now exps) ⌝ }
-    ensures { λ r. ⌜ members r ≡ walk addBy (members set) (map expOf (now (exps .entry))) ⌝ }
+    ensures { λ r. ⌜ members r ≡ foldLeft addBy (members set) (map expOf (now (exps .entry))) ⌝ }
 {
     let mut s = set;
     let mut i = 0;

@@ -5,7 +5,7 @@ use mathlib.Core.Path.{_≡_, refl, sym, ap, _∙_}
 use Prim.Native.Nat.{ℕ, _+_}
 use native.Mathlib.Omega.{arith}
 use Rattle.token.specs.Token.{Token}
-use Rattle.folding.specs.Folding.{is, one, count, dim, dim7, maj, maj7, seven, isMaj, whole, concat, join, taken, foldOn, fold7, preProcess}
+use Rattle.folding.specs.Folding.{is, one, count, dim, dim7, maj, maj7, seven, isMaj, maj7With, concat, join, taken, foldOn, fold7, preProcess}
 use Rattle.folding.proofs.Counts.{both-not, count-snoc, join-none, one-zero}
 
 module _ (m r : ℕ) where
@@ -60,8 +60,8 @@ whole-none [] h = refl
 whole-none (x ∷ []) h = refl
 whole-none (x ∷ y ∷ ts) h =
     let e : is seven y ≡ false = one-zero (is seven y) (omega arith) in
-    ap (λ (b : Bool). cond (isMaj (x .kind) && b) (whole x y ∷ concat ts) (x ∷ concat (y ∷ ts))) e
-    ∙ ap (λ (b : Bool). cond b (whole x y ∷ concat ts) (x ∷ concat (y ∷ ts))) (both-not (isMaj (x .kind)))
+    ap (λ (b : Bool). cond (isMaj (x .kind) && b) (maj7With x y ∷ concat ts) (x ∷ concat (y ∷ ts))) e
+    ∙ ap (λ (b : Bool). cond b (maj7With x y ∷ concat ts) (x ∷ concat (y ∷ ts))) (both-not (isMaj (x .kind)))
     ∙ ap (λ (l : List Token). x ∷ l) (whole-none (y ∷ ts) (omega arith))
 
 -- all three leave tokens without a 7 as they are

@@ -6,7 +6,7 @@ use Prim.Native.Nat.{ℕ, _+_, _≤_}
 use native.Mathlib.Omega.{arith}
 use lib.Dec.{eqb}
 use Rattle.token.specs.Token.{Token, Ranged}
-use Rattle.folding.specs.Folding.{is, seven, dim, dim7, maj, maj7, isMaj, whole, concat, count, paired, join, taken, foldOn, fold7, preProcess}
+use Rattle.folding.specs.Folding.{is, seven, dim, dim7, maj, maj7, isMaj, maj7With, concat, count, paired, join, taken, foldOn, fold7, preProcess}
 use Rattle.token.proofs.Ranges.{ranged-append}
 
 concat-ranged : (p l : ℕ) (ts : List Token) → Ranged p l ts → Ranged p (l + l) (concat ts)
@@ -15,7 +15,7 @@ concat-ranged p l [] r = tt
 concat-ranged p l (x ∷ []) r = (r .0, omega (arith, r .1), tt)
 concat-ranged p l (x ∷ y ∷ ts) r = go (isMaj (x .kind) && is seven y) (concat-ranged p l ts (r .2 .2)) (concat-ranged p l (y ∷ ts) (r .2))
   where
-    go : (b : Bool) → Ranged p (l + l) (concat ts) → Ranged p (l + l) (concat (y ∷ ts)) → Ranged p (l + l) (cond b (whole x y ∷ concat ts) (x ∷ concat (y ∷ ts)))
+    go : (b : Bool) → Ranged p (l + l) (concat ts) → Ranged p (l + l) (concat (y ∷ ts)) → Ranged p (l + l) (cond b (maj7With x y ∷ concat ts) (x ∷ concat (y ∷ ts)))
     go true f g = (r .0, omega (arith, r .1, r .2 .1), f)
     go false f g = (r .0, omega (arith, r .1), g)
 

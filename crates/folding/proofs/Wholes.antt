@@ -11,8 +11,8 @@ use lib.ListN.{length, getD, set, take, drop}
 use lib.Seq.{slice, slice-cons, slice-empty, take-suc-set, drop-set-lt, getD-set-same}
 use borrow.Author.Tests.{lt-ltb, ltb-true}
 use Rattle.token.specs.Token.{Token, token, at, rows, Room}
-use Rattle.folding.specs.Folding.{is, seven, dim, dim7, maj, maj7, isMaj, whole, concat, fold7, preProcess}
-use Rattle.folding.specs.State.{Turned, joinsAt, Took, Short}
+use Rattle.folding.specs.Folding.{is, seven, dim, dim7, maj, maj7, isMaj, maj7With, concat, fold7, preProcess}
+use Rattle.folding.specs.State.{Turned, joinsAt, TookFirst, Short}
 use Rattle.folding.proofs.Places.{kind-at}
 use Rattle.token.proofs.Parts.{later, slice-later, at-later}
 use Rattle.token.proofs.Rows.{rows-at, rows-room}
@@ -25,9 +25,9 @@ both-right : (a b : Bool) → (a && b) ≡ true → b ≡ true
 both-right true b h = h
 both-right false b h = let z : b ≡ true = cc in z
 
-concat-two : (x y : Token) (ts : List Token) (b : Bool) → ((isMaj (x .kind)) && (is seven y)) ≡ b → concat (x ∷ y ∷ ts) ≡ cond b (whole x y ∷ concat ts) (x ∷ concat (y ∷ ts))
+concat-two : (x y : Token) (ts : List Token) (b : Bool) → ((isMaj (x .kind)) && (is seven y)) ≡ b → concat (x ∷ y ∷ ts) ≡ cond b (maj7With x y ∷ concat ts) (x ∷ concat (y ∷ ts))
 unfolding concat
-concat-two x y ts b h = ap (λ (q : Bool). cond q (whole x y ∷ concat ts) (x ∷ concat (y ∷ ts))) h
+concat-two x y ts b h = ap (λ (q : Bool). cond q (maj7With x y ∷ concat ts) (x ∷ concat (y ∷ ts))) h
 
 concat-last : (x : Token) → concat (x ∷ []) ≡ x ∷ concat []
 unfolding concat
@@ -47,12 +47,12 @@ module _ (ks ps ls : List ℕ) (i n : ℕ) (h : i < n) (room : Room n ks ps ls) 
   pub next-there : joinsAt ks i n ≡ true → i + 1 < n
   next-there e = ltb-true (i + 1) n (both-left (ltb (i + 1) n) _ e)
 
-  pub concat-joins : joinsAt ks i n ≡ true → concat (slice i n (rows ks ps ls)) ≡ whole (at (rows ks ps ls) i) (at (rows ks ps ls) (i + 1)) ∷ concat (slice (i + 2) n (rows ks ps ls))
+  pub concat-joins : joinsAt ks i n ≡ true → concat (slice i n (rows ks ps ls)) ≡ maj7With (at (rows ks ps ls) i) (at (rows ks ps ls) (i + 1)) ∷ concat (slice (i + 2) n (rows ks ps ls))
   concat-joins e =
       let g : i + 1 < n = next-there e in
       let k : i + 1 + 1 ≡ i + 2 = omega arith in
       ap concat (two-more g) ∙ concat-two (at (rows ks ps ls) i) (at (rows ks ps ls) (i + 1)) (slice (i + 1 + 1) n (rows ks ps ls)) true (sym (test-as g) ∙ e)
-      ∙ ap (λ (j : ℕ). whole (at (rows ks ps ls) i) (at (rows ks ps ls) (i + 1)) ∷ concat (slice j n (rows ks ps ls))) k
+      ∙ ap (λ (j : ℕ). maj7With (at (rows ks ps ls) i) (at (rows ks ps ls) (i + 1)) ∷ concat (slice j n (rows ks ps ls))) k
 
   pub concat-keeps : joinsAt ks i n ≡ false → concat (slice i n (rows ks ps ls)) ≡ at (rows ks ps ls) i ∷ concat (slice (i + 1) n (rows ks ps ls))
   concat-keeps e = elim (decLe (i + 2) n) [
@@ -67,7 +67,7 @@ module _ (ks ps ls : List ℕ) (i n : ℕ) (h : i < n) (room : Room n ks ps ls) 
   ]
 
 module _ {i n w e : ℕ} {R R′ : List Token} where
-  took : (t : Token) → w < length R → R′ ≡ set R w t → concat (slice i n R) ≡ t ∷ concat (slice e n R) → i < e → e ≤ n → Took i n w e R R′
+  took : (t : Token) → w < length R → R′ ≡ set R w t → concat (slice i n R) ≡ t ∷ concat (slice e n R) → i < e → e ≤ n → TookFirst i n w e R R′
   took t b s l h g =
       let a : at R′ w ≡ t = ap (λ (q : List Token). at q w) s ∙ getD-set-same R w t (token 0 0 0) b in
       record {
@@ -81,14 +81,14 @@ module _ {ks ps ls : List ℕ} {i n w : ℕ} (b : w ≤ i) (h : i < n) (room : R
   inside : w < length (rows ks ps ls)
   inside = let r : n ≤ length (rows ks ps ls) = rows-room ks ps ls n room in omega arith
 
-  pub took-whole : {R′ : List Token} → joinsAt ks i n ≡ true → R′ ≡ set (rows ks ps ls) w (token maj7 (getD ps i 0) (getD ls i 0 + getD ls (i + 1) 0)) → Took i n w (i + 2) (rows ks ps ls) R′
+  pub took-whole : {R′ : List Token} → joinsAt ks i n ≡ true → R′ ≡ set (rows ks ps ls) w (token maj7 (getD ps i 0) (getD ls i 0 + getD ls (i + 1) 0)) → TookFirst i n w (i + 2) (rows ks ps ls) R′
   took-whole e s =
       let g : i + 1 < n = next-there ks ps ls i n h room e in
       let x : at (rows ks ps ls) i ≡ token (getD ks i 0) (getD ps i 0) (getD ls i 0) = rows-at ks ps ls i (omega arith) in
       let y : at (rows ks ps ls) (i + 1) ≡ token (getD ks (i + 1) 0) (getD ps (i + 1) 0) (getD ls (i + 1) 0) = rows-at ks ps ls (i + 1) (omega arith) in
-      took (whole (at (rows ks ps ls) i) (at (rows ks ps ls) (i + 1))) inside (s ∙ ap (set (rows ks ps ls) w) (sym (ap₂ whole x y))) (concat-joins ks ps ls i n h room e) (omega arith) (omega arith)
+      took (maj7With (at (rows ks ps ls) i) (at (rows ks ps ls) (i + 1))) inside (s ∙ ap (set (rows ks ps ls) w) (sym (ap₂ maj7With x y))) (concat-joins ks ps ls i n h room e) (omega arith) (omega arith)
 
-  pub took-kept : {R′ : List Token} → joinsAt ks i n ≡ false → R′ ≡ set (rows ks ps ls) w (at (rows ks ps ls) i) → Took i n w (i + 1) (rows ks ps ls) R′
+  pub took-kept : {R′ : List Token} → joinsAt ks i n ≡ false → R′ ≡ set (rows ks ps ls) w (at (rows ks ps ls) i) → TookFirst i n w (i + 1) (rows ks ps ls) R′
   took-kept e s = took (at (rows ks ps ls) i) inside s (concat-keeps ks ps ls i n h room e) (omega arith) (omega arith)
 
 -- what the loop keeps true: R₀ are the tokens at its start; those before i have become the first w
@@ -102,7 +102,7 @@ module _ (n : ℕ) where
   pub joining-start : (R : List Token) → Joining n R R 0 0
   joining-start R = record { low = omega arith; high = omega arith; same = refl; rest = refl }
 
-  pub joining-step : {R₀ R R′ : List Token} {w i e : ℕ} → n ≤ length R → Joining n R₀ R w i → Took i n w e R R′ → Joining n R₀ R′ (w + 1) e
+  pub joining-step : {R₀ R R′ : List Token} {w i e : ℕ} → n ≤ length R → Joining n R₀ R w i → TookFirst i n w e R R′ → Joining n R₀ R′ (w + 1) e
   joining-step {R₀} {R} {R′} {w} {i} {e} b J T =
       let t = at R′ w in
       let d : drop (w + 1) R′ ≡ drop (w + 1) R = ap (drop (w + 1)) (T .only) ∙ drop-set-lt (w + 1) R w t (omega arith) in

@@ -3,23 +3,23 @@ use mathlib.Core.Bool.{Bool, true, false, _&&_, _||_, cond}
 use mathlib.Core.List.{List, [], _∷_, _++_}
 use Prim.Native.Nat.{ℕ, _+_, min}
 use lib.Dec.{eqb}
-use Rattle.token.specs.Token.{Token, token, numberOf}
+use Rattle.token.specs.Token.{Token, token, typeNumber}
 use Rattle.token.specs.declared.TokenType.the-variants.{Dim, Dim7, Extension, Maj, Maj7}
 
 abbrev pub dim : ℕ
-dim = numberOf Dim
+dim = typeNumber Dim
 
 abbrev pub dim7 : ℕ
-dim7 = numberOf Dim7
+dim7 = typeNumber Dim7
 
 abbrev pub seven : ℕ
-seven = numberOf (Extension 7)
+seven = typeNumber (Extension 7)
 
 abbrev pub maj : ℕ
-maj = numberOf Maj
+maj = typeNumber Maj
 
 abbrev pub maj7 : ℕ
-maj7 = numberOf Maj7
+maj7 = typeNumber Maj7
 
 abbrev pub is : ℕ → Token → Bool
 is k t = eqb (t .kind) k
@@ -34,8 +34,8 @@ count k [] = 0
 count k (t ∷ ts) = one (is k t) + count k ts
 
 -- "`concat_maj7` adds both lengths": a Maj or Maj7 and the 7 right after it
-abbrev pub whole : Token → Token → Token
-whole a b = token maj7 (a .pos) (a .len + b .len)
+abbrev pub maj7With : Token → Token → Token
+maj7With a b = token maj7 (a .pos) (a .len + b .len)
 
 unfoldable pub isMaj : ℕ → Bool
 isMaj k = eqb k maj || eqb k maj7
@@ -44,7 +44,7 @@ isMaj k = eqb k maj || eqb k maj7
 unfoldable pub concat : List Token → List Token
 concat [] = []
 concat (x ∷ []) = x ∷ []
-concat (x ∷ y ∷ ts) = cond (isMaj (x .kind) && is seven y) (whole x y ∷ concat ts) (x ∷ concat (y ∷ ts))
+concat (x ∷ y ∷ ts) = cond (isMaj (x .kind) && is seven y) (maj7With x y ∷ concat ts) (x ∷ concat (y ∷ ts))
 
 -- "The pair stands in the earlier one's place, with the smaller position and the earlier one's length."
 abbrev pub paired : ℕ → Token → Token → Token

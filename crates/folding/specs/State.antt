@@ -61,7 +61,7 @@ abbrev pub joinsAt : List ℕ → ℕ → ℕ → Bool
 joinsAt ks i n = ((ltb (i + 1) n) && ((isMaj (getD ks i 0)) && (eqb (getD ks (i + 1) 0) seven)))
 
 -- place w holds what comes first of the tokens from i to n, and those from e on are still to come
-pub record Took (i n w e : ℕ) (R R′ : List Token) : Type 0 where
+pub record TookFirst (i n w e : ℕ) (R R′ : List Token) : Type 0 where
   pub list : concat (slice i n R) ≡ at R′ w ∷ concat (slice e n R)
   pub only : R′ ≡ set R w (at R′ w)
   pub more : i < e

@@ -4,7 +4,7 @@ ghost use Prim.Native.Nat.{ℕ, _+_, _^_, _<_, _≤_, min};
 ghost use lib.ListN.{length, set, take};
 ghost use Rattle.token.specs.Token.{rows, Room, Untouched, at as tokenAt};
 ghost use Rattle.folding.specs.Folding.{paired, fold7, count, isMaj, concat, preProcess};
-ghost use Rattle.folding.specs.State.{Latest, Joined, Apart, Counted, partnerCame, sevenCame, Stepped, Turned, joinsAt, Took, Short};
+ghost use Rattle.folding.specs.State.{Latest, Joined, Apart, Counted, partnerCame, sevenCame, Stepped, Turned, joinsAt, TookFirst, Short};
 
 const DIM: u8 = 4;
 
@@ -194,7 +194,7 @@ fn take_one(
 ) -> usize
     requires { ⌜ (w ≤ i) × (i < n) × Room n (now kinds) (now poss) (now lens) ⌝ }
     requires { ⌜ ((j : ℕ) → i ≤ j → j < n → tokenAt (rows (now kinds) (now poss) (now lens)) j .len ≤ 256) ⌝ }
-    ensures { λ e. ⌜ Took i n w e (rows (now (kinds .entry)) (now (poss .entry)) (now (lens .entry))) (rows (now (kinds .exit)) (now (poss .exit)) (now (lens .exit))) ⌝ }
+    ensures { λ e. ⌜ TookFirst i n w e (rows (now (kinds .entry)) (now (poss .entry)) (now (lens .entry))) (rows (now (kinds .exit)) (now (poss .exit)) (now (lens .exit))) ⌝ }
 {
     if joins(kinds, i, n) {
         let p = poss[i];

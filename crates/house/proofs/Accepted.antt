@@ -15,7 +15,7 @@ use Rattle.expression.specs.ParserError.{numbersOf}
 use Rattle.expression.specs.declared.expression.Exp.the-variants.{Power, Bass, Maj, Maj7, Minor, HalfDim, Dim, Dim7, Alt, Aug, Sus, Extension, Add, Omit, SlashBass}
 use Rattle.expression.specs.declared.expression.Exp.{Exp}
 use Rattle.expression.specs.declared.parser_error.ParserError.the-variants.{DuplicateModifier, DuplicateExtension, InvalidExtension}
-use Rattle.validator.specs.Validator.{among, badExtensions, countOf, extensionFault, faultOf, firstFrom, firstWrong, isNil, only, orElse, priorityOf, repeated, repeatedAt, seeing, wrongOf}
+use Rattle.validator.specs.Validator.{among, badExtensions, timesOf, extensionFault, faultOf, firstFrom, firstWrong, isNil, only, orElse, priorityOf, repeated, repeatedAt, seeing, wrongOf}
 use Rattle.house.specs.House.{Part, part, parts, select, spellExps}
 use Rattle.house.specs.declared.kind.Kind.the-variants.{Plain, Flat2, Second, Sharp4}
 use Rattle.house.specs.declared.kind.Kind.{Kind}
@@ -55,8 +55,8 @@ count-one true false = omega arith
 count-one false u = omega arith
 
 -- what is selected has no more
-count-most : (gs : List Part) (q : ℕ) → countOf (select gs) q ≤ mostParts gs q
-unfolding countOf
+count-most : (gs : List Part) (q : ℕ) → timesOf (select gs) q ≤ mostParts gs q
+unfolding timesOf
 count-most [] q = omega arith
 count-most (part true e ∷ gs) q =
     let r = count-most gs q in
@@ -90,7 +90,7 @@ few-parts p b n Sharp4 = tt
 
 -- the spelled expressions repeat no priority
 pub no-repeat : (p : ℕ → ℕ) (b : OptionalNote) (n : Set) (k : Kind) → repeated (spellExps p b n k) ≡ []
-no-repeat p b n k = few-none (countOf (spellExps p b n k)) (mostParts (parts p b n k)) (count-most (parts p b n k)) 15 0 (few-parts p b n k)
+no-repeat p b n k = few-none (timesOf (spellExps p b n k)) (mostParts (parts p b n k)) (count-most (parts p b n k)) 15 0 (few-parts p b n k)
 
 -- no part is at fault, even where all parts before it are selected
 abbrev cleanParts : Set → List Part → Bool

@@ -10,7 +10,7 @@ use Rattle.chord.specs.Interval.{Set, minorThird, majorThird}
 use Rattle.chord.specs.declared.note.OptionalNote.the-variants as optional
 use Rattle.chord.specs.declared.note.OptionalNote.{OptionalNote}
 use Rattle.evaluator.specs.Display.{firstSus, susOf}
-use Rattle.evaluator.specs.Evaluator.{bassOf, evalSet, slashBass, walk}
+use Rattle.evaluator.specs.Evaluator.{bassOf, evalSet, slashBass, foldLeft}
 use Rattle.expression.specs.declared.expression.Exp.the-variants.{Power, Bass, Maj, Maj7, Minor, HalfDim, Dim, Dim7, Alt, Aug, Sus, Extension, Add, Omit, SlashBass}
 use Rattle.expression.specs.declared.expression.Exp.{Exp}
 use Rattle.house.specs.House.{Part, part, isSome, kindOf, parts, select, spellExps}
@@ -102,7 +102,7 @@ bass-at b (Omit x p) = refl
 bass-at b (SlashBass n) = refl
 
 -- the slash bass of what is selected
-bass-select : (gs : List Part) (b : OptionalNote) → walk bassOf b (select gs) ≡ bassParts b gs
+bass-select : (gs : List Part) (b : OptionalNote) → foldLeft bassOf b (select gs) ≡ bassParts b gs
 bass-select [] b = refl
 bass-select (part true e ∷ gs) b = bass-select gs (bassOf b e) ∙ ap (λ (a : OptionalNote). bassParts a gs) (bass-at b e)
 bass-select (part false e ∷ gs) b = bass-select gs b ∙ ap (λ (a : OptionalNote). bassParts a gs) (both (slashes e) b)

@@ -12,7 +12,7 @@ use borrow.Author.Tests.{ltb-false, ltb-true, ne-eqb}
 use Rattle.chord.specs.Interval.{Set, empty, insert, remove, removeThenAdd}
 use Rattle.chord.specs.declared.note.OptionalNote.{OptionalNote}
 use Rattle.evaluator.specs.Display.{firstSus}
-use Rattle.evaluator.specs.Evaluator.{walk, any, elem, direct, alter, omit, add, alterBy, omitBy, addBy, alterations, altsOf, omitsOf, addsOf, applyForm, applySus, baseForm, imply, imply7, imply9, imply11, implied, implied9, implied11, implied13, isMaj, isMajor, isSus4, maxExt, prune6, prune11, removeThirds, seed, evalSet}
+use Rattle.evaluator.specs.Evaluator.{foldLeft, any, elem, direct, alter, omit, add, alterBy, omitBy, addBy, alterations, altsOf, omitsOf, addsOf, applyForm, applySus, baseForm, imply, imply7, imply9, imply11, implied, implied9, implied11, implied13, isMaj, isMajor, isSus4, maxExt, prune6, prune11, removeThirds, seed, evalSet}
 use Rattle.evaluator.specs.declared.ast.BaseForm.the-variants as form
 use Rattle.evaluator.specs.declared.ast.BaseForm.{BaseForm}
 use Rattle.expression.specs.declared.expression.Exp.the-variants.{Power, Bass, Maj, Maj7, Minor, HalfDim, Dim, Dim7, Alt, Aug, Sus, Extension, Add, Omit, SlashBass}
@@ -219,13 +219,13 @@ lows-adds (Add x p) t = lows-if true x (and-left (ltb x 23) _ t)
 lows-adds (Omit x p) t = tt
 lows-adds (SlashBass n) t = tt
 
--- a walk over numbers below 23, by steps that each keep it
-low-numbers : (f : Set → ℕ → Set) → ((x : ℕ) → T (ltb x 23) → (s : Set) → Low s → Low (f s x)) → (l : List ℕ) → T (lows l) → (s : Set) → Low s → Low (walk f s l)
+-- a foldLeft over numbers below 23, by steps that each keep it
+low-numbers : (f : Set → ℕ → Set) → ((x : ℕ) → T (ltb x 23) → (s : Set) → Low s → Low (f s x)) → (l : List ℕ) → T (lows l) → (s : Set) → Low s → Low (foldLeft f s l)
 low-numbers f F [] t s h = h
 low-numbers f F (x ∷ l) t s h = low-numbers f F l (and-right (ltb x 23) (lows l) t) (f s x) (F x (and-left (ltb x 23) (lows l) t) s h)
 
--- a walk over allowed expressions, by steps that each keep it
-low-walk : (f : Set → Exp → Set) → ((e : Exp) → T (allows e) → (s : Set) → Low s → Low (f s e)) → (l : List Exp) → T (allowed l) → (s : Set) → Low s → Low (walk f s l)
+-- a foldLeft over allowed expressions, by steps that each keep it
+low-walk : (f : Set → Exp → Set) → ((e : Exp) → T (allows e) → (s : Set) → Low s → Low (f s e)) → (l : List Exp) → T (allowed l) → (s : Set) → Low s → Low (foldLeft f s l)
 low-walk f F [] t s h = h
 low-walk f F (e ∷ l) t s h = low-walk f F l (and-right (allows e) (allowed l) t) (f s e) (F e (and-left (allows e) (allowed l) t) s h)
 

@@ -1,4 +1,4 @@
--- Every stage acts on each member by itself. So what a walk over the selected parts does to one member is a Boolean expression in the
+-- Every stage acts on each member by itself. So what a foldLeft over the selected parts does to one member is a Boolean expression in the
 -- conditions; at a written-out member and expression, the parts that do not touch it compute away. Put together, the evaluation of
 -- selected parts is `evalParts`, which `Round` computes at each member.
 -- Assumes nothing.
@@ -9,7 +9,7 @@ use Prim.Native.Nat.{ℕ, zero, suc, max}
 use native.Mathlib.Omega.{arith}
 use lib.Dec.{T, eqb, leb, eqb→eq}
 use Rattle.chord.specs.Interval.{Set, empty, insert, remove, removeThenAdd}
-use Rattle.evaluator.specs.Evaluator.{walk, any, elem, direct, alter, omit, add, alterBy, omitBy, addBy, altsOf, omitsOf, addsOf, removeThirds, extOf, extAt, formOf, formAt, transition, isMajor, applyForm, applySus, prune6, prune11, evalSet, isSus4, isMaj, seed, implied, baseForm}
+use Rattle.evaluator.specs.Evaluator.{foldLeft, any, elem, direct, alter, omit, add, alterBy, omitBy, addBy, altsOf, omitsOf, addsOf, removeThirds, extOf, extAt, formOf, formAt, transition, isMajor, applyForm, applySus, prune6, prune11, evalSet, isSus4, isMaj, seed, implied, baseForm}
 use Rattle.evaluator.specs.declared.ast.BaseForm.the-variants as form
 use Rattle.evaluator.specs.declared.ast.BaseForm.{BaseForm}
 use Rattle.expression.specs.declared.expression.Exp.the-variants.{Power, Bass, Maj, Maj7, Minor, HalfDim, Dim, Dim7, Alt, Aug, Sus, Extension, Add, Omit, SlashBass}
@@ -45,9 +45,9 @@ pub bw-cond : (c : Bool) (f g : Set → Set) → Bitwise f → Bitwise g → Bit
 bw-cond true f g F G = F
 bw-cond false f g F G = G
 
-pub bw-walk : (f : Set → ℕ → Set) → ((x : ℕ) → Bitwise (λ s. f s x)) → (l : List ℕ) → Bitwise (λ s. walk f s l)
+pub bw-walk : (f : Set → ℕ → Set) → ((x : ℕ) → Bitwise (λ s. f s x)) → (l : List ℕ) → Bitwise (λ s. foldLeft f s l)
 bw-walk f F [] = bw-id
-bw-walk f F (x ∷ l) = bw-then (λ s. f s x) (λ s. walk f s l) (F x) (bw-walk f F l)
+bw-walk f F (x ∷ l) = bw-then (λ s. f s x) (λ s. foldLeft f s l) (F x) (bw-walk f F l)
 
 -- the stages
 pub bw-replace : (i k : ℕ) → Bitwise (λ s. removeThenAdd s i k)
@@ -93,12 +93,12 @@ bw-addBy e = bw-walk add one (addsOf e)
         bw-then (λ s. cond (eqb x 21) (remove s 8) s) (λ s. insert s x)
         (bw-cond (eqb x 21) (λ s. remove s 8) (λ s. s) (bw-remove 8) bw-id) (bw-insert x)
 
--- a walk over the selected parts, at one member
+-- a foldLeft over the selected parts, at one member
 abbrev pub bit : (Set → Exp → Set) → List Part → ℕ → Bool → Bool
 bit f [] j b = b
 bit f (part c e ∷ gs) j b = bit f gs j (f empty e j && c || (f full e j || not c) && b)
 
-pub walk-select : (f : Set → Exp → Set) → ((e : Exp) → Bitwise (λ s. f s e)) → (gs : List Part) (s : Set) (j : ℕ) → walk f s (select gs) j ≡ bit f gs j (s j)
+pub walk-select : (f : Set → Exp → Set) → ((e : Exp) → Bitwise (λ s. f s e)) → (gs : List Part) (s : Set) (j : ℕ) → foldLeft f s (select gs) j ≡ bit f gs j (s j)
 walk-select f F [] s j = refl
 walk-select f F (part true e ∷ gs) s j =
     walk-select f F gs (f s e) j
@@ -125,7 +125,7 @@ noExt (part c e ∷ gs) = eqb (extOf e) 0 && noExt gs
 max-zero : (n : ℕ) → max n 0 ≡ n
 max-zero n = omega arith
 
-pub maxExt-select : (gs : List Part) (n : ℕ) → T (noExt gs) → walk extAt n (select gs) ≡ n
+pub maxExt-select : (gs : List Part) (n : ℕ) → T (noExt gs) → foldLeft extAt n (select gs) ≡ n
 maxExt-select [] n t = refl
 maxExt-select (part true e ∷ gs) n t =
     maxExt-select gs (max n (extOf e)) (and-right (eqb (extOf e) 0) (noExt gs) t)
@@ -157,7 +157,7 @@ form-out : (f : BaseForm) (b : Bool) → f ≡ cond b f (transition f form.Major
 form-out f true = refl
 form-out f false = top f
 
-pub form-select : (gs : List Part) (f : BaseForm) → walk formAt f (select gs) ≡ formBit f gs
+pub form-select : (gs : List Part) (f : BaseForm) → foldLeft formAt f (select gs) ≡ formBit f gs
 form-select [] f = refl
 form-select (part true e ∷ gs) f = form-select gs (transition f (formOf e)) ∙ ap (λ g. formBit g gs) (form-in f (formOf e))
 form-select (part false e ∷ gs) f = form-select gs f ∙ ap (λ g. formBit g gs) (form-out f (isMajor (formOf e)))
@@ -258,7 +258,7 @@ evalParts gs =
     prune11At (prune6At (λ j. bit addBy gs j (bit omitBy gs j (bit alterBy gs j (susAt (some isSus4 gs) j (formAtMember (formBit form.Major gs) j (bit direct gs j (seed j))))))))
 
 -- stage by stage, as functions of the set
-pub stage : (f : Set → Exp → Set) → ((e : Exp) → Bitwise (λ s. f s e)) → (gs : List Part) → _≡_ {A = Set → Set} (λ s. walk f s (select gs)) (λ s j. bit f gs j (s j))
+pub stage : (f : Set → Exp → Set) → ((e : Exp) → Bitwise (λ s. f s e)) → (gs : List Part) → _≡_ {A = Set → Set} (λ s. foldLeft f s (select gs)) (λ s j. bit f gs j (s j))
 stage f F gs = fun-ext λ s. fun-ext (walk-select f F gs s)
 
 pub eval-parts : (gs : List Part) → T (noExt gs) → evalSet (select gs) ≡ evalParts gs

@@ -12,7 +12,7 @@ use Rattle.chord.specs.Interval.{Set, empty, insert, remove, removeThenAdd}
 use Rattle.chord.specs.Note.{noteOf}
 use Rattle.chord.specs.declared.note.Note.{Note}
 use Rattle.evaluator.specs.Display.{firstSus, susOf}
-use Rattle.evaluator.specs.Evaluator.{walk, any, direct, alter, omit, add, alterBy, omitBy, addBy, applyForm, applySus, imply, imply7, imply9, imply11, implied, prune6, prune11, evalSet, seed, maxExt, baseForm, isMajor, isMaj, isSus4, removeThirds}
+use Rattle.evaluator.specs.Evaluator.{foldLeft, any, direct, alter, omit, add, alterBy, omitBy, addBy, applyForm, applySus, imply, imply7, imply9, imply11, implied, prune6, prune11, evalSet, seed, maxExt, baseForm, isMajor, isMaj, isSus4, removeThirds}
 use Rattle.evaluator.specs.declared.ast.BaseForm.the-variants as form
 use Rattle.evaluator.specs.declared.ast.BaseForm.{BaseForm}
 use Rattle.expression.specs.declared.expression.Exp.the-variants.{Power, Bass, Maj, Maj7, Minor, HalfDim, Dim, Dim7, Alt, Aug, Sus, Extension, Add, Omit, SlashBass}
@@ -126,19 +126,19 @@ every-exp t v (Add x p) h =
 every-exp t v (Omit x p) h = below 23 (λ x. t (Omit x p)) (pick (tests t p someNote) (v p someNote) 13) x (ltb→lt x 23 (and-left (ltb x 23) _ h))
 every-exp t v (SlashBass n) h = pick (tests t 0 n) (v 0 n) 14
 
--- ---- a walk keeps q; and it reaches q where the list has an expression that brings it
+-- ---- a foldLeft keeps q; and it reaches q where the list has an expression that brings it
 abbrev Kept : (Set → Exp → Set) → List ℕ → (List Bool → Bool) → Type 0
 Kept f js q = (p : ℕ) (n : Note) → T (everyExp (λ e. turns (λ s. f s e) js q q) p n)
 
 module _ (f : Set → Exp → Set) (F : (e : Exp) → Bitwise (λ s. f s e)) (js : List ℕ) (q : List Bool → Bool) (v : Kept f js q) where
-  keep : (l : List Exp) → T (allowed l) → (s : Set) → T (q (at s js)) → T (q (at (walk f s l) js))
+  keep : (l : List Exp) → T (allowed l) → (s : Set) → T (q (at s js)) → T (q (at (foldLeft f s l) js))
   keep [] t s a = a
   keep (e ∷ l) t s a =
       keep l (and-right (allows e) (allowed l) t) (f s e)
       (turn (λ s. f s e) (F e) js q q (every-exp (λ e. turns (λ s. f s e) js q q) v e (and-left (allows e) (allowed l) t)) s a)
 
   reach : (r : Exp → Bool) → ((p : ℕ) (n : Note) → T (everyExp (λ e. r e ⇒ turns (λ s. f s e) js (λ l. true) q) p n))
-      → (l : List Exp) → T (allowed l) → T (any r l) → (s : Set) → T (q (at (walk f s l) js))
+      → (l : List Exp) → T (allowed l) → T (any r l) → (s : Set) → T (q (at (foldLeft f s l) js))
   reach r w [] t a s = absurd a
   reach r w (e ∷ l) t a s =
       orElse (r e) (any r l) a
@@ -306,7 +306,7 @@ module _ (j : ℕ) where
 -- ---- the whole evaluation
 -- after the alterations; after the implied extensions
 abbrev to4 : List Exp → Set
-to4 l = walk alterBy (applySus (any isSus4 l) (applyForm (baseForm l) (walk direct seed l))) l
+to4 l = foldLeft alterBy (applySus (any isSus4 l) (applyForm (baseForm l) (foldLeft direct seed l))) l
 
 abbrev to5 : List Exp → Set
 to5 l = implied (maxExt l) (isMajor (baseForm l)) (any isMaj l) (to4 l)
@@ -353,13 +353,13 @@ module _ (js : List ℕ) (q : List Bool → Bool) (v : (p : ℕ) (n : Note) → 
   upto5 t = subst (λ b. T (q b)) (sym (still-at still5 (to5 l) (to4 l) (implied-still (maxExt l) (isMajor (baseForm l)) (any isMaj l) (to4 l)) js t)) upto4
 
 module _ (js : List ℕ) (r : List Bool → Bool) (v : (p : ℕ) (n : Note) → T (allB (late js r p n))) (l : List Exp) (o : T (allowed l)) where
-  from7 : (s : Set) → T (r (at s js)) → T (r (at (prune11 (prune6 (walk addBy s l))) js))
+  from7 : (s : Set) → T (r (at s js)) → T (r (at (prune11 (prune6 (foldLeft addBy s l))) js))
   from7 s a =
-      subst (λ b. T (r b)) (sym (still-at still8 (prune11 (prune6 (walk addBy s l))) (walk addBy s l) (prune-still (walk addBy s l)) js (pick (late js r 0 someNote) (v 0 someNote) 2)))
+      subst (λ b. T (r b)) (sym (still-at still8 (prune11 (prune6 (foldLeft addBy s l))) (foldLeft addBy s l) (prune-still (foldLeft addBy s l)) js (pick (late js r 0 someNote) (v 0 someNote) 2)))
       (keep addBy bw-addBy js r (λ p n. pick (late js r p n) (v p n) 1) l o s a)
 
-  from6 : (s : Set) → T (r (at s js)) → T (r (at (prune11 (prune6 (walk addBy (walk omitBy s l) l))) js))
-  from6 s a = from7 (walk omitBy s l) (keep omitBy bw-omitBy js r (λ p n. pick (late js r p n) (v p n) 0) l o s a)
+  from6 : (s : Set) → T (r (at s js)) → T (r (at (prune11 (prune6 (foldLeft addBy (foldLeft omitBy s l) l))) js))
+  from6 s a = from7 (foldLeft omitBy s l) (keep omitBy bw-omitBy js r (λ p n. pick (late js r p n) (v p n) 0) l o s a)
 
 -- a clause that every stage keeps
 always : (js : List ℕ) (q : List Bool → Bool) → ((p : ℕ) (n : Note) → T (allB (early js q p n))) → T (allJ still5 js) → ((p : ℕ) (n : Note) → T (allB (late js q p n)))
@@ -443,7 +443,7 @@ kind-any π z (e ∷ l) t =
 
 module _ (l : List Exp) (o : T (allowed l)) where
   abbrev to7 : Set
-  to7 = walk addBy (walk omitBy (to5 l) l) l
+  to7 = foldLeft addBy (foldLeft omitBy (to5 l) l) l
 
   pruned : (q : Bool → Bool → Bool) (i j : ℕ) (s : Set) → T (q (prune11At (prune6At s) i) (prune11At (prune6At s) j)) → T (q (prune11 (prune6 s) i) (prune11 (prune6 s) j))
   pruned q i j s t = subst (λ (n : Set). T (q (n i) (n j))) (sym (prune-at s)) t
@@ -471,7 +471,7 @@ module _ (l : List Exp) (o : T (allowed l)) where
         s7 = from6 (12 ∷ 9 ∷ 7 ∷ []) seven′ (λ p n. tt) l o (to5 l) (weaker (to5 l 12) (to5 l 9) (to5 l 7) (upto5 (12 ∷ 9 ∷ 7 ∷ []) seven (λ p n. tt) l o tt));
         s8 = pruned (λ a b. not (a && b)) 11 22 to7 (six (to7 11) (to7 22));
         s9 = pruned (λ a b. not (a && b)) 4 19 to7 (eleven (to7 4) (to7 19));
-        s10 = implies (isSus (kindOf (firstSus l))) _ (λ k. from7 (3 ∷ []) none (λ p n. tt) l o (walk omitBy (to5 l) l)
+        s10 = implies (isSus (kindOf (firstSus l))) _ (λ k. from7 (3 ∷ []) none (λ p n. tt) l o (foldLeft omitBy (to5 l) l)
             (reach omitBy bw-omitBy (3 ∷ []) none (λ p n. tt) (gives isSus) (λ p n. tt) l o (kind-any isSus (λ z. z) l k) (to5 l)));
         s11a = implies (isFlat2 (kindOf (firstSus l))) _ (λ k. from6 (16 ∷ []) first (λ p n. tt) l o (to5 l) (brought 16 isFlat2 tt (λ z. z) (λ p n. tt) (λ p n. tt) k));
         s11b = implies (isSecond (kindOf (firstSus l))) _ (λ k. from6 (17 ∷ []) first (λ p n. tt) l o (to5 l) (brought 17 isSecond tt (λ z. z) (λ p n. tt) (λ p n. tt) k));

@@ -96,9 +96,9 @@ abbrev pub isSome : OptionalNote → Bool
 isSome optional.None = false
 isSome (optional.Some b) = true
 
-abbrev pub noteIn : OptionalNote → Note
-noteIn optional.None = noteOf 0
-noteIn (optional.Some b) = b
+abbrev pub noteOrC : OptionalNote → Note
+noteOrC optional.None = noteOf 0
+noteOrC (optional.Some b) = b
 
 -- "Written in order: .. `dim7` if N has bb7, else `m` if it has b3; then .. `b5` if N has it and not bb7; `#5` and `7` if N has them; `susb2`,
 -- `sus2` or `sus#4` by K; `omit3` ..; `omit5` ..; `add` with each member of N among 2, 3 (only with K or bb7), 4, b6, 6, Maj7, b9, 9, #9, 11, #11,
@@ -128,7 +128,7 @@ parts p b n k =
     ∷ part (n sharpEleventh && not (isSharp4 k)) (Add sharpEleventh (p 20))
     ∷ part (n flatThirteenth) (Add flatThirteenth (p 21))
     ∷ part (n thirteenth) (Add thirteenth (p 22))
-    ∷ part (isSome b) (SlashBass (noteIn b))
+    ∷ part (isSome b) (SlashBass (noteOrC b))
     ∷ []
 
 abbrev pub spellExps : (ℕ → ℕ) → OptionalNote → Set → Kind → List Exp

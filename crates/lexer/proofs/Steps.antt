@@ -1,4 +1,4 @@
--- One step of the walk keeps the whole: what stands in the arrays and what is still to come.
+-- One step of the walk keeps the allTokens: what stands in the arrays and what is still to come.
 -- Assumes nothing.
 use mathlib.Core.Bool.{true, false}
 use mathlib.Core.List.{List, [], _∷_, _++_, append-assoc}
@@ -12,7 +12,7 @@ use lib.ListN.{length, take, drop, set, length-append, drop-of-length-le, length
 use lib.Seq.{slice, slice-empty, drop-cons, drop-drop, take-take, take-at, drop-at, length-take-le, take-suc-set, drop-set-lt}
 use Rattle.token.specs.Token.{Token, token}
 use Rattle.lexer.specs.Lexer.{headOf, emit, illegal, lex, sizeOf}
-use Rattle.lexer.specs.State.{planOf, whole, Few, Inserted, Emitted, Written, scan}
+use Rattle.lexer.specs.State.{planOf, allTokens, Few, Inserted, Emitted, Written, scan}
 use Rattle.lexer.specs.declared.Head.the-variants as head
 use Rattle.lexer.specs.declared.Head.{Head}
 use Rattle.lexer.specs.declared.Plan.{Plan}
@@ -57,7 +57,7 @@ module _ {t : Token} {p n : ℕ} {R R′ : List Token} (le : p ≤ n) (b : n + 1
   back = ap (drop (p + 1)) list-two ∙ drop-at (take p R ++ (t ∷ [])) (slice p n R) (p + 1) front-length
 
 module _ (text : List ℕ) (s : Scan) (R R′ : List Token) (F : Few text s) (l : s .at < length text) where
-  before-step : (h : Head) → h ≡ headOf (drop (s .at) text) → whole text s R ≡ take (s .held) R ++ emit h (slice (s .held) (s .count) R) (s .at) (λ k g. lex k g (s .at + 1) (drop (s .at + 1) text))
+  before-step : (h : Head) → h ≡ headOf (drop (s .at) text) → allTokens text s R ≡ take (s .held) R ++ emit h (slice (s .held) (s .count) R) (s .at) (λ k g. lex k g (s .at + 1) (drop (s .at + 1) text))
   before-step h e = ap (λ q. take (s .held) R ++ q) (open-head text (s .at) (slice (s .held) (s .count) R) l ∙ ap (λ g. emit g (slice (s .held) (s .count) R) (s .at) (λ k g. lex k g (s .at + 1) (drop (s .at + 1) text))) (sym e))
 
   all : take (s .count) R ≡ take (s .held) R ++ slice (s .held) (s .count) R
@@ -73,7 +73,7 @@ module _ (text : List ℕ) (s : Scan) (R R′ : List Token) (F : Few text s) (l 
       ∙ ap₂ (λ f r. f ++ (t ∷ r)) all (sym (go-on text (s .at) n [] o))
       ∙ append-assoc (take (s .held) R) (slice (s .held) (s .count) R) (t ∷ lex (n - 1) [] (s .at + 1) (drop (s .at + 1) text))
 
-  pub step-whole : (h : Head) → h ≡ headOf (drop (s .at) text) → 1 ≤ sizeOf h → s .count + 1 ≤ length R → Emitted h s (planOf h s .next) R R′ → whole text (planOf h s .next) R′ ≡ whole text s R
+  pub step-whole : (h : Head) → h ≡ headOf (drop (s .at) text) → 1 ≤ sizeOf h → s .count + 1 ≤ length R → Emitted h s (planOf h s .next) R R′ → allTokens text (planOf h s .next) R′ ≡ allTokens text s R
   step-whole head.Space e o b E =
       let z = E .none refl in
       ap (λ r. take (s .count) r ++ lex 0 (slice (s .count) (s .count) r) (s .at + 1) (drop (s .at + 1) text)) z
@@ -125,7 +125,7 @@ module _ (text : List ℕ) (s : Scan) (R R′ : List Token) (F : Few text s) (l 
 -- what the loop keeps true of the tokens R, where they were R₀ at first
 pub record Walked (text : List ℕ) (s : Scan) (R₀ R : List Token) : Type 0 where
   pub few : Few text s
-  pub list : whole text s R ≡ lex 0 [] 0 text
+  pub list : allTokens text s R ≡ lex 0 [] 0 text
   pub rest : drop (s .count) R ≡ drop (s .count) R₀
 
 pub walk-start : (text : List ℕ) (R : List Token) → Walked text (scan 0 0 0) R R

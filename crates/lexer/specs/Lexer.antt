@@ -4,7 +4,7 @@ use mathlib.Core.List.{List, [], _∷_, _++_}
 use Prim.Native.Nat.{ℕ, zero, suc, _+_, _-_, _*_}
 use lib.Dec.{eqb, leb, ltb}
 use lib.ListN.{length, drop}
-use Rattle.token.specs.Token.{Token, token, numberOf}
+use Rattle.token.specs.Token.{Token, token, typeNumber}
 use Rattle.token.specs.declared.TokenType.the-variants.{Sharp, Flat, Aug, Dim, HalfDim, Extension, Hyphen, Maj7, Slash, LParent, RParent, Comma, Illegal, Eof}
 use Rattle.utf8.specs.Utf8.{charOf}
 use Rattle.utf8.specs.declared.Found.the-variants as utf8
@@ -15,7 +15,7 @@ use Rattle.lexer.specs.declared.Head.{Head}
 use Rattle.lexer.specs.declared.Match.{Match}
 
 abbrev pub illegal : ℕ
-illegal = numberOf Illegal
+illegal = typeNumber Illegal
 
 unfoldable pub isLetter : ℕ → Bool
 isLetter c = leb 65 c && leb c 90 || leb 97 c && leb c 122
@@ -34,17 +34,17 @@ elem x (y ∷ ys) = eqb x y || elem x ys
 -- The signs of `scan_token`, by character; 0 for a character that has no token of its own.
 unfoldable pub signOf : ℕ → ℕ
 signOf c =
-    cond (eqb c 0x23 || eqb c 0x266F) (numberOf Sharp)
-    (cond (eqb c 0x266D) (numberOf Flat)
-    (cond (eqb c 0x25B3 || eqb c 0x5E || eqb c 0x394) (numberOf Maj7)
-    (cond (eqb c 0x2D) (numberOf Hyphen)
-    (cond (eqb c 0xB0) (numberOf Dim)
-    (cond (eqb c 0xF8) (numberOf HalfDim)
-    (cond (eqb c 0x2F) (numberOf Slash)
-    (cond (eqb c 0x2B) (numberOf Aug)
-    (cond (eqb c 0x2C) (numberOf Comma)
-    (cond (eqb c 0x28) (numberOf LParent)
-    (cond (eqb c 0x29) (numberOf RParent)
+    cond (eqb c 0x23 || eqb c 0x266F) (typeNumber Sharp)
+    (cond (eqb c 0x266D) (typeNumber Flat)
+    (cond (eqb c 0x25B3 || eqb c 0x5E || eqb c 0x394) (typeNumber Maj7)
+    (cond (eqb c 0x2D) (typeNumber Hyphen)
+    (cond (eqb c 0xB0) (typeNumber Dim)
+    (cond (eqb c 0xF8) (typeNumber HalfDim)
+    (cond (eqb c 0x2F) (typeNumber Slash)
+    (cond (eqb c 0x2B) (typeNumber Aug)
+    (cond (eqb c 0x2C) (typeNumber Comma)
+    (cond (eqb c 0x28) (typeNumber LParent)
+    (cond (eqb c 0x29) (typeNumber RParent)
     0))))))))))
 
 -- "Each character that is no ASCII letter, ASCII digit or space and has no token of its own is Illegal, at its first byte, with its byte
@@ -78,8 +78,8 @@ oneDigit = 2 ∷ 3 ∷ 4 ∷ 5 ∷ 6 ∷ 7 ∷ 9 ∷ []
 -- What the digits d, of n bytes, and e, of m bytes, begin with. A number's length is its count of digits.
 abbrev pub numberHead : ℕ → ℕ → ℕ → ℕ → Head
 numberHead d n e m =
-    cond (elem (10 * d + e) twoDigits) (Number (numberOf (Extension (10 * d + e))) 2 (n + m))
-    (cond (elem d oneDigit) (Number (numberOf (Extension d)) 1 n)
+    cond (elem (10 * d + e) twoDigits) (Number (typeNumber (Extension (10 * d + e))) 2 (n + m))
+    (cond (elem d oneDigit) (Number (typeNumber (Extension d)) 1 n)
     (Digit n))
 
 -- what the digit d, of n bytes, begins with, by the character that stands behind it
@@ -120,7 +120,7 @@ lex (suc k) held p (b ∷ s) = lex k held (p + 1) s
 
 -- "End is at text length + 1, length 0."
 abbrev pub endOf : List ℕ → Token
-endOf s = token (numberOf Eof) (length s + 1) 0
+endOf s = token (typeNumber Eof) (length s + 1) 0
 
 abbrev pub tokensOf : List ℕ → List Token
 tokensOf s = lex 0 [] 0 s ++ (endOf s ∷ [])

@@ -58,8 +58,8 @@ planOf (head.Number k l n) s = plan (s .held) k (s .at) l (scan (s .at + n) (s .
 planOf (head.Digit n) s = plan (s .held) illegal (s .at) 1 (scan (s .at + n) (s .held) (s .count + 1))
 
 -- the tokens that stand in the arrays, but for the held digits, and those still to come
-abbrev pub whole : List ℕ → Scan → List Token → List Token
-whole text s R = take (s .held) R ++ lex 0 (slice (s .held) (s .count) R) (s .at) (drop (s .at) text)
+abbrev pub allTokens : List ℕ → Scan → List Token → List Token
+allTokens text s R = take (s .held) R ++ lex 0 (slice (s .held) (s .count) R) (s .at) (drop (s .at) text)
 
 -- one token a byte at most, and the held digits are among them
 pub record Few (text : List ℕ) (s : Scan) : Type 0 where

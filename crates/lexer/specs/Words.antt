@@ -6,7 +6,7 @@ use Prim.Native.String.{String}
 use lib.Dec.{ltb}
 use lib.ListN.{length}
 use Rattle.chord.specs.declared.note.NoteLiteral.the-variants.{C, D, E, F, G, A, B}
-use Rattle.token.specs.Token.{numberOf}
+use Rattle.token.specs.Token.{typeNumber}
 use Rattle.token.specs.declared.TokenType.the-variants.{Note, Flat, Aug, Dim, Add, Omit, Alt, Sus, Minor, Maj, Bass, Illegal}
 use Rattle.token.specs.declared.TokenType.{TokenType}
 use Rattle.utf8.specs.Utf8.{begins}
@@ -24,7 +24,7 @@ word t k = record { text = t; kind = k }
 -- the words that stand for a type
 abbrev pub standFor : TokenType → List String → List Word
 standFor t [] = []
-standFor t (w ∷ ws) = word (ascii w) (numberOf t) ∷ standFor t ws
+standFor t (w ∷ ws) = word (ascii w) (typeNumber t) ∷ standFor t ws
 
 -- 55 words, in the order of `from_string`. (Its 56th, the degree sign, is no letter and never met in a letter run; it is a sign.)
 unfoldable pub words : List Word
@@ -63,4 +63,4 @@ longestOf (w ∷ ws) s m = longestOf ws s (better s w m)
 -- "A letter run is cut by longest word from the left." A word has letters only, so that the longest word of the run is the longest that
 -- the rest of the text begins with.
 abbrev pub longest : List ℕ → Match
-longest s = longestOf words s (match 0 (numberOf Illegal))
+longest s = longestOf words s (match 0 (typeNumber Illegal))

@@ -17,9 +17,9 @@ use Rattle.reader.specs.declared.Answer.{Answer as Read}
 use Rattle.reader.specs.declared.Reading.{Reading}
 use Rattle.writer.proofs.Answers.{Asked as WriterAsked, Way, asked-first as writer-asked, enough as writer-enough, has, lacks, long-buffer, short as writer-short, way}
 use Rattle.writer.proofs.Puts.{put-whole}
-use Rattle.writer.specs.State.{Gave, Put}
+use Rattle.writer.specs.State.{WriteGave, Put}
 use Rattle.writer.specs.Writer as writer
-use Rattle.writer.specs.Writer.{Outcome, lengthOf, numberOf, refused, writeOf}
+use Rattle.writer.specs.Writer.{WriteOutcome, lengthOf, numberOf, refused, writeOf}
 use Rattle.writer.specs.declared.Answer.{Answer as Written}
 use Rattle.nophtris.proofs.Bytes.{chord-length}
 use Rattle.nophtris.specs.Boundary.{answerTo, chordAfter, chordBytes, countAfter, fourIn, inside, lengthAfter, valuesIn, writeIn}
@@ -43,8 +43,8 @@ abbrev fills : ℕ → Four → List ℕ → List ℕ
 fills n f cs = cond (eqb n 0) (chordBytes f) cs
 
 -- the answer is v
-pub gave-read : {o : reader.Outcome} {r : Reading} {es es′ cs cs′ : List ℕ} (v : Read) (c : ℕ) → r .answer ≡ v
-    → reader-state.Gave o r es es′
+pub gave-read : {o : reader.ReadOutcome} {r : Reading} {es es′ cs cs′ : List ℕ} (v : Read) (c : ℕ) → r .answer ≡ v
+    → reader-state.ReadGave o r es es′
     → cs′ ≡ fills (reader.numberOf v) (o .four) cs
     → GaveRead o (reader.numberOf v) es es′ c (counts (reader.numberOf v) (reader.countOf v) c) cs cs′
 gave-read {o} {r} {es} {es′} {cs} {cs′} v c e g w =
@@ -79,7 +79,7 @@ module _ (cs : List ℕ) where
 
 -- ---- and back: the buffer is short, or the bytes hold no four, or the writer's question was put to their four
 
-pub data Asked (room : ℕ) (cs : List ℕ) : Outcome → Type 0 where
+pub data Asked (room : ℕ) (cs : List ℕ) : WriteOutcome → Type 0 where
   short : room < 112 → Asked room cs (refused 6)
   outside : 112 ≤ room → fourIn cs ≡ none → Asked room cs (refused 7)
   within : 112 ≤ room → fourIn cs ≡ some (valuesIn cs) → Asked room cs (writer.answerTo (valuesIn cs))
@@ -95,19 +95,19 @@ asked-first room cs = by (ltb room 112) (inside cs) refl refl
 
 -- ---- what the code gave
 
-gave-refused : {o : Outcome} (k : ℕ) (bs : List ℕ) (l : ℕ) → o ≡ refused k → l ≡ lengthAfter (refused k) l → GaveWritten o k bs bs l l
-gave-refused k bs l e z = subst (λ (q : Outcome). GaveWritten q k bs bs l l) (sym e) (record { number = refl; buffer = refl; size = z })
+gave-refused : {o : WriteOutcome} (k : ℕ) (bs : List ℕ) (l : ℕ) → o ≡ refused k → l ≡ lengthAfter (refused k) l → GaveWritten o k bs bs l l
+gave-refused k bs l e z = subst (λ (q : WriteOutcome). GaveWritten q k bs bs l l) (sym e) (record { number = refl; buffer = refl; size = z })
 
 -- the house spelling is short
-few : (room : ℕ) (f : Four) {o : Outcome} → WriterAsked room f o → o .length ≤ 112
+few : (room : ℕ) (f : Four) {o : WriteOutcome} → WriterAsked room f o → o .length ≤ 112
 few room f (writer-short h) = omega arith
 few room f (writer-enough h) = by (way f)
   where
-    by : {o : Outcome} → Way f o → o .length ≤ 112
+    by : {o : WriteOutcome} → Way f o → o .length ≤ 112
     by (has e) = house-length f
     by (lacks e) = omega arith
 
-pub spelled-few : (room : ℕ) (f : Four) {a : Written} {bs bs′ : List ℕ} → Gave (writeOf room f) a bs bs′ → lengthOf a ≤ 112
+pub spelled-few : (room : ℕ) (f : Four) {a : Written} {bs bs′ : List ℕ} → WriteGave (writeOf room f) a bs bs′ → lengthOf a ≤ 112
 spelled-few room f g = subst (λ (n : ℕ). n ≤ 112) (sym (g .size)) (few room f (writer-asked room f))
 
 module _ (cs bs : List ℕ) (l : ℕ) where
@@ -120,12 +120,12 @@ module _ (cs bs : List ℕ) (l : ℕ) where
 
     -- the writer's answer is v
     pub gave-inside : {f : Four} {a : Written} {bs′ : List ℕ} (v : Written) → inside cs ≡ true → f ≡ valuesIn cs → a ≡ v
-        → Gave (writeOf (length bs) f) a bs bs′
+        → WriteGave (writeOf (length bs) f) a bs bs′
         → GaveWritten (writeIn (length bs) cs) (numberOf v) bs bs′ l (cond (eqb (numberOf v) 0) (lengthOf v) l)
     gave-inside {f} {a} {bs′} v e q s g =
         let o : writeOf (length bs) f ≡ writeIn (length bs) cs =
         long-buffer (length bs) f h ∙ ap writer.answerTo q ∙ sym (long-buffer-in (length bs) cs h ∙ ap answerTo (holds cs e)) in
         let n : numberOf v ≡ writeOf (length bs) f .number = ap numberOf (sym s) ∙ g .number in
         let k : lengthOf v ≡ writeOf (length bs) f .length = ap lengthOf (sym s) ∙ g .size in
-        subst (λ (x : Outcome). GaveWritten x (numberOf v) bs bs′ l (cond (eqb (numberOf v) 0) (lengthOf v) l)) o
+        subst (λ (x : WriteOutcome). GaveWritten x (numberOf v) bs bs′ l (cond (eqb (numberOf v) 0) (lengthOf v) l)) o
         (record { number = n; buffer = g .buffer; size = λ i. cond (eqb (n i) 0) (k i) l })

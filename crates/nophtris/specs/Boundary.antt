@@ -85,23 +85,23 @@ fourIn bs = cond (inside bs) (some (valuesIn bs)) none
 -- ---- reading
 
 -- the count is written with 4 and 5 only, the record with 0 only
-abbrev pub countAfter : reader.Outcome → ℕ → ℕ
+abbrev pub countAfter : reader.ReadOutcome → ℕ → ℕ
 countAfter o c = cond (eqb (o .number) 4 || eqb (o .number) 5) (o .count) c
 
-abbrev pub chordAfter : reader.Outcome → List ℕ → List ℕ
+abbrev pub chordAfter : reader.ReadOutcome → List ℕ → List ℕ
 chordAfter o bs = cond (eqb (o .number) 0) (chordBytes (o .four)) bs
 
 -- ---- writing
 
 -- "Has some accepted text exactly these four? No: 7.": so it is too where the bytes hold none
-abbrev pub answerTo : Option Four → writer.Outcome
+abbrev pub answerTo : Option Four → writer.WriteOutcome
 answerTo none = writer.refused 7
 answerTo (some f) = writer.answerTo f
 
 -- "Does the buffer hold at least 112 bytes? No: 6."
-unfoldable pub writeIn : ℕ → List ℕ → writer.Outcome
+unfoldable pub writeIn : ℕ → List ℕ → writer.WriteOutcome
 writeIn room bs = cond (ltb room 112) (writer.refused 6) (answerTo (fourIn bs))
 
 -- the length is written with a spelling only
-abbrev pub lengthAfter : writer.Outcome → ℕ → ℕ
+abbrev pub lengthAfter : writer.WriteOutcome → ℕ → ℕ
 lengthAfter o l = cond (eqb (o .number) 0) (o .length) l

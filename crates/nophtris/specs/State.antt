@@ -7,13 +7,13 @@ use Rattle.reader.specs.Reader as reader
 use Rattle.writer.specs.Writer as writer
 use Rattle.nophtris.specs.Boundary.{chordAfter, countAfter, lengthAfter, writeIn}
 
-pub record GaveRead (o : reader.Outcome) (r : ℕ) (es es′ : List ℕ) (c c′ : ℕ) (cs cs′ : List ℕ) : Type 0 where
+pub record GaveRead (o : reader.ReadOutcome) (r : ℕ) (es es′ : List ℕ) (c c′ : ℕ) (cs cs′ : List ℕ) : Type 0 where
   pub number : r ≡ o .number
   pub errors : es′ ≡ o .errs ++ drop (length (o .errs)) es
   pub count : c′ ≡ countAfter o c
   pub chord : cs′ ≡ chordAfter o cs
 
-pub record GaveWritten (o : writer.Outcome) (r : ℕ) (bs bs′ : List ℕ) (l l′ : ℕ) : Type 0 where
+pub record GaveWritten (o : writer.WriteOutcome) (r : ℕ) (bs bs′ : List ℕ) (l l′ : ℕ) : Type 0 where
   pub number : r ≡ o .number
   pub buffer : bs′ ≡ o .bytes ++ drop (length (o .bytes)) bs
   pub size : l′ ≡ lengthAfter o l

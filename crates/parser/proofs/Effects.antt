@@ -30,7 +30,7 @@ use Rattle.token.specs.Token.{typeOf}
 use Rattle.token.specs.declared.TokenType.the-variants as type
 use Rattle.token.specs.declared.TokenType.{TokenType}
 use Rattle.parser.specs.Parser.{Parsing, errorOf, gainsOf, rootEffect}
-use Rattle.parser.specs.State.{Did, Fits, Gained, Ready, Stored, Foreseen, aheadIn, reachOf, effectIn, hereIn, start}
+use Rattle.parser.specs.State.{EffectDone, Fits, Gained, Ready, Stored, Foreseen, aheadIn, reachOf, effectIn, hereIn, start}
 use Rattle.parser.specs.declared.state.State.{State}
 use Rattle.parser.proofs.Lists.{gained-none, gained-numbered}
 
@@ -46,7 +46,7 @@ abbrev found : Effect → List ℕ → List Exp → Parsing
 found e es xs = record { skip = 0; count = e .count; context = e .context; errs = es; exps = xs }
 
 pub did-effect : (st : State) (e : Effect) {n m : ℕ} {es es′ xs xs′ : List ℕ} → Stored (st .errors) n (errorOf (e .error)) es es′ → Gained (st .exps) m (gainsOf (e .gains)) xs xs′
-    → Ready st → st .at < 257 → Fits st e → Did e st (after st e n m) es es′ xs xs′
+    → Ready st → st .at < 257 → Fits st e → EffectDone e st (after st e n m) es es′ xs xs′
 did-effect st e {n} {m} {es} {es′} {xs} {xs′} s g ready h fits =
     let k : m ≡ st .exps + gainsCount (e .gains) = rw (← gains-length (e .gains)) (g .count) in
     record {
@@ -127,13 +127,13 @@ fits-root n nx {e} h = subst (Fits start) (sym h) (by n)
 
 -- the state after the root: its effect takes at most one token more, adds no expression and at most one error
 pub begun : (root : OptionalNote) (nx : Next) (xs : List ℕ) {e : Effect} {n : ℕ} {es es′ : List ℕ} → e ≡ rootEffect root nx → Stored 0 n (errorOf (e .error)) es es′
-    → Did (rootEffect root nx) start (record { at = 1 + e .taken; count = toZ w16 (ofZ w16 (e .count)); context = e .context; errors = n; exps = 0 }) es es′ xs xs
+    → EffectDone (rootEffect root nx) start (record { at = 1 + e .taken; count = toZ w16 (ofZ w16 (e .count)); context = e .context; errors = n; exps = 0 }) es es′ xs xs
 begun root nx xs {e} {n} {es} {es′} h s =
     let none : gainsOf (e .gains) ≡ [] = ap (λ (d : Effect). gainsOf (d .gains)) h ∙ no-gains root in
     let g : Gained 0 0 (gainsOf (e .gains)) xs xs = subst (λ (l : List Exp). Gained 0 0 l xs xs) (sym none) (gained-none 0 xs) in
     let f = fits-root root nx h in
     let d = did-effect start e s g ready-start (omega arith) f in
-    subst (λ (r : Effect). Did r start (record { at = 1 + e .taken; count = toZ w16 (ofZ w16 (e .count)); context = e .context; errors = n; exps = 0 }) es es′ xs xs) h
+    subst (λ (r : Effect). EffectDone r start (record { at = 1 + e .taken; count = toZ w16 (ofZ w16 (e .count)); context = e .context; errors = n; exps = 0 }) es es′ xs xs) h
     (rw (count-back (e .count) (omega (arith, f .counted))) d)
   where
     no-gains : (m : OptionalNote) → gainsOf (rootEffect m nx .gains) ≡ []

@@ -22,7 +22,7 @@ use Rattle.behind.specs.declared.Next.{Next}
 use Rattle.token.specs.Token.{Token, typeOf}
 use Rattle.token.specs.declared.TokenType.{TokenType}
 use Rattle.parser.specs.All.{All}
-use Rattle.parser.specs.Parser.{Parsing, aheadOf, applied, blank, effectAt, errorOf, gainsOf, hereOf, nextAt, parseOf, rootEffect, rootOf, skipping, stackTurn, turn, walk}
+use Rattle.parser.specs.Parser.{Parsing, aheadOf, applied, blank, effectAt, errorOf, gainsOf, hereOf, nextAt, parseOf, rootEffect, rootOf, skipping, stackTurn, tokenTurn, walk}
 use Rattle.parser.proofs.Effects.{gains-length}
 
 -- n tokens led from s to r: each added at most one error and one expression, and a sus still owes its expression
@@ -94,7 +94,7 @@ grown-root (optional.Some n) nx = grown-effect (rootEffect (optional.Some n) nx)
 grown-root optional.None nx = grown-effect (rootEffect optional.None nx) blank (omega arith) tt
 
 -- any other; it adds nothing where it is taken already
-grown-turn : (n : ℕ) (stk : List ℕ) (s : Parsing) (t : Token) (ts : List Token) → Grown 1 s (turn n stk s t ts)
+grown-turn : (n : ℕ) (stk : List ℕ) (s : Parsing) (t : Token) (ts : List Token) → Grown 1 s (tokenTurn n stk s t ts)
 grown-turn zero stk s t ts =
     let k = typeOf (t .kind) in
     grown-effect (effectAt stk k (hereOf t s) (aheadOf ts)) s (effect-small stk k (hereOf t s) (aheadOf ts) .gained) (effect-sound stk k (hereOf t s) (aheadOf ts))
@@ -104,7 +104,7 @@ grown-turn (suc n) stk s t ts = grown-none 1 n s
 grown-walk : (stk : List ℕ) (s : Parsing) (ts : List Token) → Grown (length ts) s (walk stk s ts)
 unfolding walk
 grown-walk stk s [] = grown-none 0 0 s
-grown-walk stk s (t ∷ ts) = grown-then (grown-turn (s .skip) stk s t ts) (grown-walk (stackTurn (s .skip) stk t) (turn (s .skip) stk s t ts) ts)
+grown-walk stk s (t ∷ ts) = grown-then (grown-turn (s .skip) stk s t ts) (grown-walk (stackTurn (s .skip) stk t) (tokenTurn (s .skip) stk s t ts) ts)
 
 -- all tokens
 grown-all : (ts : List Token) → Grown (suc (length (drop 1 ts))) blank (parseOf ts)

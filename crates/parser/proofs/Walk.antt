@@ -10,7 +10,7 @@ use lib.ListN.{length, drop, getD}
 use lib.Seq.{drop-drop}
 use Rattle.chord.specs.declared.note.OptionalNote.{OptionalNote}
 use Rattle.chord.specs.declared.note.RootModifier.{RootModifier}
-use Rattle.behind.specs.Next.{noteIn, signIn}
+use Rattle.behind.specs.Next.{noteFrom, signIn}
 use Rattle.expression.specs.Expression.{expNumber}
 use Rattle.step.specs.Step.{bracketKind, insideOf}
 use Rattle.step.specs.declared.effect.Effect.{Effect}
@@ -22,7 +22,7 @@ use Rattle.step.specs.declared.step.Bracket.{Bracket}
 use Rattle.token.specs.Token.{Token, rows, typeOf}
 use Rattle.token.specs.declared.TokenType.{TokenType}
 use Rattle.parser.specs.Parser.{Parsing, aheadOf, applied, blank, effectAt, ends, enter, leave, nextAt, opens, parseOf, rootEffect, rootOf, skipping, walk}
-use Rattle.parser.specs.State.{Did, Kept, Ready, Took, Read, Parsed, aheadIn, bracketBy, bracketIn, effectIn, hereIn, nextIn, stackBy, start, view}
+use Rattle.parser.specs.State.{EffectDone, Kept, Ready, TookToken, Read, Parsed, aheadIn, bracketBy, bracketIn, effectIn, hereIn, nextIn, stackBy, start, view}
 use Rattle.parser.specs.declared.state.State.{State}
 use Rattle.parser.proofs.Lists.{later}
 use Rattle.parser.proofs.Rows.{ahead-is, drop-none, drop-row, next-is}
@@ -48,7 +48,7 @@ kept-then {st} {m} {r} {e₀} {e₁} {e₂} {x₀} {x₁} {x₂} a b =
     }
 
 -- going on after an effect is going on from the state that the code has then
-pub did-walk : (T : List Token) (stk : List ℕ) {e : Effect} {st r : State} {es es′ xs xs′ : List ℕ} → Did e st r es es′ xs xs′
+pub did-walk : (T : List Token) (stk : List ℕ) {e : Effect} {st r : State} {es es′ xs xs′ : List ℕ} → EffectDone e st r es es′ xs xs′
     → walk stk (applied e (view st es xs)) (drop (st .at + 1) T) ≡ walk stk (view r es′ xs′) (drop (r .at) T)
 did-walk T stk {e} {st} {r} {es} {es′} {xs} {xs′} d =
     skips (e .taken) stk (applied e (view st es xs)) (drop (st .at + 1) T)
@@ -99,7 +99,7 @@ module _ (ks ps ls : List ℕ) (even : length ps ≡ length ks) (flat : length l
   -- the token at st had the effect e, which the token step decided
   module _ (b : Bracket) (q : ℕ) (st : State) (es xs : List ℕ) {e : Effect} (he : e ≡ effectIn ks ps ls xs st b q) where
     -- going on after it, with the bracket that it opens
-    opened : {u : State} {es₁ xs₁ : List ℕ} (c : Bool) → opens (bracketIn ks (st .at)) ≡ c → Did e st u es es₁ xs xs₁ → (stk : List ℕ)
+    opened : {u : State} {es₁ xs₁ : List ℕ} (c : Bool) → opens (bracketIn ks (st .at)) ≡ c → EffectDone e st u es es₁ xs xs₁ → (stk : List ℕ)
         → walk (enter (bracketIn ks (st .at)) (getD ps (st .at) 0) stk) (applied (effectIn ks ps ls xs st b q) (view st es xs))
         (drop (st .at + 1) T)
         ≡ walk (cond c (getD ps (st .at) 0 ∷ stk) stk) (view u es₁ xs₁) (drop (u .at) T)
@@ -108,18 +108,18 @@ module _ (ks ps ls : List ℕ) (even : length ps ≡ length ks) (flat : length l
         ∙ did-walk T (cond c (getD ps (st .at) 0 ∷ stk) stk) d
 
     -- it opens none
-    pub took-alone : {r : State} {es′ xs′ : List ℕ} → opens (bracketIn ks (st .at)) ≡ false → Did e st r es es′ xs xs′
-        → Took ks ps ls b q st r es es′ xs xs′
+    pub took-alone : {r : State} {es′ xs′ : List ℕ} → opens (bracketIn ks (st .at)) ≡ false → EffectDone e st r es es′ xs xs′
+        → TookToken ks ps ls b q st r es es′ xs xs′
     took-alone o d =
         record { went = record { same = opened false o d; ready = d .ready }; kept = d .kept; forward = omega (arith, d .moved) }
 
     -- it opens one, which was read from a copy of the state and back
-    pub took-bracket : {u v w r : State} {es₁ es₂ xs₁ xs₂ : List ℕ} → opens (bracketIn ks (st .at)) ≡ true → Did e st u es es₁ xs xs₁
-        → v ≡ u → Read ks ps ls true (getD ps (st .at) 0) v w es₁ es₂ xs₁ xs₂ → r ≡ w → Took ks ps ls b q st r es es₂ xs xs₂
+    pub took-bracket : {u v w r : State} {es₁ es₂ xs₁ xs₂ : List ℕ} → opens (bracketIn ks (st .at)) ≡ true → EffectDone e st u es es₁ xs xs₁
+        → v ≡ u → Read ks ps ls true (getD ps (st .at) 0) v w es₁ es₂ xs₁ xs₂ → r ≡ w → TookToken ks ps ls b q st r es es₂ xs xs₂
     took-bracket {u} {v} {w} {r} {es₁} {es₂} {xs₁} {xs₂} o d copy read back =
         let i : Read ks ps ls true (getD ps (st .at) 0) u w es₁ es₂ xs₁ xs₂ =
         subst (λ (x : State). Read ks ps ls true (getD ps (st .at) 0) x w es₁ es₂ xs₁ xs₂) copy read in
-        subst (λ (x : State). Took ks ps ls b q st x es es₂ xs xs₂) (sym back)
+        subst (λ (x : State). TookToken ks ps ls b q st x es es₂ xs xs₂) (sym back)
         (record {
           went = record { same = λ stk. opened true o d stk ∙ i .went .same stk; ready = i .went .ready };
           kept = kept-then (d .kept) (i .kept);
@@ -169,7 +169,7 @@ module _ (ks ps ls : List ℕ) (even : length ps ≡ length ks) (flat : length l
           ∙ (λ i. walk (enter (bracketIn ks (st .at)) (getD ps (st .at) 0) (l i)) (applied (f i) (view st es xs)) (drop (st .at + 1) T))
 
       -- it ends the bracket
-      pub read-ends : {r : State} {es′ xs′ : List ℕ} → ends b ≡ true → Took ks ps ls b q st r es es′ xs xs′
+      pub read-ends : {r : State} {es′ xs′ : List ℕ} → ends b ≡ true → TookToken ks ps ls b q st r es es′ xs xs′
           → Read ks ps ls inside q st r es es′ xs xs′
       read-ends o t =
           record {
@@ -180,7 +180,7 @@ module _ (ks ps ls : List ℕ) (even : length ps ≡ length ks) (flat : length l
           }
 
       -- it does not, and tokens are read on
-      pub within-one : {u : State} {es₁ xs₁ : List ℕ} → ends b ≡ false → Took ks ps ls b q st u es es₁ xs xs₁
+      pub within-one : {u : State} {es₁ xs₁ : List ℕ} → ends b ≡ false → TookToken ks ps ls b q st u es es₁ xs xs₁
           → Within ks ps ls inside q st u es es₁ xs xs₁
       within-one o t =
           record { same = λ stk. one stk false o ∙ t .went .same (stackBy inside q stk); kept = t .kept; ready = t .went .ready; forward = omega (arith, t .forward) }
@@ -197,14 +197,14 @@ module _ (ks ps ls : List ℕ) (even : length ps ≡ length ks) (flat : length l
 
   -- the root, and then all tokens behind it
   pub parsed : {first second : Next} {m : RootModifier} {root : OptionalNote} {u r : State} {es es₁ es₂ xs xs₂ : List ℕ}
-      → first ≡ nextIn ks 0 → second ≡ nextIn ks 1 → m ≡ signIn second → root ≡ noteIn first m
-      → Did (rootEffect root second) start u es es₁ xs xs → Read ks ps ls false 0 u r es₁ es₂ xs xs₂
+      → first ≡ nextIn ks 0 → second ≡ nextIn ks 1 → m ≡ signIn second → root ≡ noteFrom first m
+      → EffectDone (rootEffect root second) start u es es₁ xs xs → Read ks ps ls false 0 u r es₁ es₂ xs xs₂
       → Parsed T (record { root = root; errors = r .errors; exps = r .exps }) es es₂ xs xs₂
   unfolding walk
   parsed {first} {second} {m} {root} {u} {r} {es} {es₁} {es₂} {xs} {xs₂} hf hs hm hr d w =
       let ef : first ≡ nextAt T 0 = hf ∙ sym (next-is ks ps ls even flat 0) in
       let en : second ≡ nextAt T 1 = hs ∙ sym (next-is ks ps ls even flat 1) in
-      let er : root ≡ rootOf T = hr ∙ (λ i. noteIn (ef i) ((hm ∙ ap signIn en) i)) in
+      let er : root ≡ rootOf T = hr ∙ (λ i. noteFrom (ef i) ((hm ∙ ap signIn en) i)) in
       let read : view r es₂ xs₂ ≡ walk [] (view u es₁ xs) (drop (u .at) T) = sym (w .went .same [] ∙ ap (λ (l : List Token). walk [] (view r es₂ xs₂) l) (drop-none ks ps ls (r .at) (w .whole refl))) in
       let v : view r es₂ xs₂ ≡ parseOf T = read ∙ sym (did-walk T [] d) ∙ (λ i. walk [] (applied (rootEffect (er i) (en i)) blank) (drop 1 T)) in
       let k = kept-then (d .kept) (w .kept) in

@@ -11,7 +11,7 @@ use Rattle.expression.specs.ParserError.{numbersOf}
 use Rattle.expression.specs.declared.expression.Exp.the-variants.{Power, Bass, Maj, Maj7, Minor, HalfDim, Dim, Dim7, Alt, Aug, Sus, Extension, Add, Omit, SlashBass}
 use Rattle.expression.specs.declared.expression.Exp.{Exp}
 use Rattle.expression.specs.declared.parser_error.ParserError.the-variants.{MissingRootNote}
-use Rattle.behind.specs.Next.{isSign, nextOf, noteIn, signIn}
+use Rattle.behind.specs.Next.{isSign, nextOf, noteFrom, signIn}
 use Rattle.step.specs.Step.{bracketKind, insideOf, stepOf}
 use Rattle.step.specs.declared.context.Context.the-variants as context
 use Rattle.step.specs.declared.context.Context.{Context}
@@ -116,17 +116,17 @@ abbrev pub stackTurn : ℕ → List ℕ → Token → List ℕ
 stackTurn zero stk t = enter (bracketOf t) (t .pos) (leave (bracketOf t) stk)
 stackTurn (suc n) stk t = stk
 
-abbrev pub turn : ℕ → List ℕ → Parsing → Token → List Token → Parsing
-turn zero stk s t ts = applied (effectAt stk (typeOf (t .kind)) (hereOf t s) (aheadOf ts)) s
-turn (suc n) stk s t ts = skipping n s
+abbrev pub tokenTurn : ℕ → List ℕ → Parsing → Token → List Token → Parsing
+tokenTurn zero stk s t ts = applied (effectAt stk (typeOf (t .kind)) (hereOf t s) (aheadOf ts)) s
+tokenTurn (suc n) stk s t ts = skipping n s
 
 unfoldable pub walk : List ℕ → Parsing → List Token → Parsing
 walk stk s [] = skipping 0 s
-walk stk s (t ∷ ts) = walk (stackTurn (s .skip) stk t) (turn (s .skip) stk s t ts) ts
+walk stk s (t ∷ ts) = walk (stackTurn (s .skip) stk t) (tokenTurn (s .skip) stk s t ts) ts
 
 -- the root, with its sign
 abbrev pub rootOf : List Token → OptionalNote
-rootOf ts = noteIn (nextAt ts 0) (signIn (nextAt ts 1))
+rootOf ts = noteFrom (nextAt ts 0) (signIn (nextAt ts 1))
 
 -- "The first token is consumed even when it is no note."
 abbrev pub rootEffect : OptionalNote → Next → Effect

@@ -149,27 +149,27 @@ pub record Kept (st r : State) (es es′ xs xs′ : List ℕ) : Type 0 where
   pub numbered : Numbered (st .exps) xs → Numbered (r .exps) xs′
 
 -- the token at st had the effect e
-pub record Did (e : Effect) (st r : State) (es es′ xs xs′ : List ℕ) : Type 0 where
+pub record EffectDone (e : Effect) (st r : State) (es es′ xs xs′ : List ℕ) : Type 0 where
   pub same : view r es′ xs′ ≡ skipping 0 (applied e (view st es xs))
   pub kept : Kept st r es es′ xs xs′
   pub moved : r .at ≡ st .at + 1 + e .taken
   pub ready : Ready r
 
 -- going on from s with the tokens ts and the brackets `q stk` open is going on from r with `stk` open
-pub record Went (T : List Token) (q : List ℕ → List ℕ) (s : Parsing) (ts : List Token) (r : State) (es xs : List ℕ) : Type 0 where
+pub record WentOn (T : List Token) (q : List ℕ → List ℕ) (s : Parsing) (ts : List Token) (r : State) (es xs : List ℕ) : Type 0 where
   pub same : (stk : List ℕ) → walk (q stk) s ts ≡ walk stk (view r es xs) (drop (r .at) T)
   pub ready : Ready r
 
 -- the token at st, which is b to the bracket opened at q, and the bracket that it opens were taken
-pub record Took (ks ps ls : List ℕ) (b : Bracket) (q : ℕ) (st r : State) (es es′ xs xs′ : List ℕ) : Type 0 where
-  pub went : Went (rows ks ps ls) (enter (bracketIn ks (st .at)) (getD ps (st .at) 0))
+pub record TookToken (ks ps ls : List ℕ) (b : Bracket) (q : ℕ) (st r : State) (es es′ xs xs′ : List ℕ) : Type 0 where
+  pub went : WentOn (rows ks ps ls) (enter (bracketIn ks (st .at)) (getD ps (st .at) 0))
       (applied (effectIn ks ps ls xs st b q) (view st es xs)) (drop (st .at + 1) (rows ks ps ls)) r es′ xs′
   pub kept : Kept st r es es′ xs xs′
   pub forward : st .at < r .at
 
 -- tokens were read to the end of the bracket that was opened at q, or all of them where none is open
 pub record Read (ks ps ls : List ℕ) (inside : Bool) (q : ℕ) (st r : State) (es es′ xs xs′ : List ℕ) : Type 0 where
-  pub went : Went (rows ks ps ls) (stackBy inside q) (view st es xs) (drop (st .at) (rows ks ps ls)) r es′ xs′
+  pub went : WentOn (rows ks ps ls) (stackBy inside q) (view st es xs) (drop (st .at) (rows ks ps ls)) r es′ xs′
   pub kept : Kept st r es es′ xs xs′
   pub forward : st .at ≤ r .at
   pub whole : inside ≡ false → length ks ≤ r .at

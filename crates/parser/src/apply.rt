@@ -4,7 +4,7 @@ ghost use Prim.Native.Nat.{_+_, _*_, _≤_, _<_};
 ghost use lib.ListN.{length};
 ghost use Rattle.step.specs.Bounds.{gainsCount};
 ghost use Rattle.parser.specs.Parser.{errorOf, gainsOf};
-ghost use Rattle.parser.specs.State.{Ready, Fits, Space, Stored, Gained, Did};
+ghost use Rattle.parser.specs.State.{Ready, Fits, Space, Stored, Gained, EffectDone};
 use crate::state::State;
 use expression::expression::Exp;
 use expression::parser_error::store;
@@ -52,7 +52,7 @@ fn push_exps(exps: &mut [u32], n: usize, gains: Gains) -> usize
 // The state after the token at st.at, which has the effect e.
 pub(crate) fn apply(st: State, e: Effect, errs: &mut [u16], exps: &mut [u32]) -> State
     requires { ⌜ Ready st × (st .at < 257) × Fits st e × Space (now errs) (now exps) ⌝ }
-    ensures { λ r. ⌜ Did e st r (now (errs .entry)) (now (errs .exit)) (now (exps .entry)) (now (exps .exit)) ⌝ }
+    ensures { λ r. ⌜ EffectDone e st r (now (errs .entry)) (now (errs .exit)) (now (exps .entry)) (now (exps .exit)) ⌝ }
 {
     let context = e.context;
     let gains = e.gains;

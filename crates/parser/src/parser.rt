@@ -6,7 +6,7 @@ ghost use Prim.Native.Nat.{ℕ, _≤_, _<_};
 ghost use lib.ListN.{length};
 ghost use Rattle.token.specs.Token.{rows};
 ghost use Rattle.parser.specs.Parser.{opens, ends, rootEffect};
-ghost use Rattle.parser.specs.State.{bracketIn, bracketBy, Ready, Space, Tokens, start, Did, Took, Read, Parsed};
+ghost use Rattle.parser.specs.State.{bracketIn, bracketBy, Ready, Space, Tokens, start, EffectDone, TookToken, Read, Parsed};
 use crate::apply::apply;
 use crate::apply::push_error;
 use crate::state::State;
@@ -81,7 +81,7 @@ fn take_token(
     exps: &mut [u32],
 ) -> State
     requires { ⌜ Tokens (now kinds) (now poss) (now lens) × (st .at < length (now kinds)) × Ready st × Space (now errs) (now exps) ⌝ }
-    ensures { λ r. ⌜ Took (now (kinds .entry)) (now (poss .entry)) (now (lens .entry)) bracket pos st r
+    ensures { λ r. ⌜ TookToken (now (kinds .entry)) (now (poss .entry)) (now (lens .entry)) bracket pos st r
         (now (errs .entry)) (now (errs .exit)) (now (exps .entry)) (now (exps .exit)) ⌝ }
 {
     let at = st.at;
@@ -156,7 +156,7 @@ fn root_effect(root: OptionalNote, next: Next) -> Effect
 // The state after the first token; that of any other is `apply`'s. Only kind 9 can be written.
 fn begin(root: OptionalNote, next: Next, errs: &mut [u16]) -> State
     requires { ⌜ 4 ≤ length (now errs) ⌝ }
-    ensures { λ r. ⌜ ((xs : List ℕ) → Did (rootEffect root next) start r (now (errs .entry)) (now (errs .exit)) xs xs) ⌝ }
+    ensures { λ r. ⌜ ((xs : List ℕ) → EffectDone (rootEffect root next) start r (now (errs .entry)) (now (errs .exit)) xs xs) ⌝ }
 {
     let e = root_effect(root, next);
     let context = e.context;

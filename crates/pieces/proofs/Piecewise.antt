@@ -13,7 +13,7 @@ use Rattle.chord.specs.Interval.{Set, minorSecond, majorSecond, majorThird, per
 use Rattle.chord.specs.declared.note.RootModifier.the-variants.{Natural}
 use Rattle.expression.specs.declared.expression.Exp.the-variants.{Sus, Extension, Add, Omit}
 use Rattle.expression.specs.declared.expression.Exp.{Exp}
-use Rattle.folding.specs.Folding.{concat, count, dim, is, isMaj, maj, seven, whole}
+use Rattle.folding.specs.Folding.{concat, count, dim, is, isMaj, maj, seven, maj7With}
 use Rattle.house.specs.House.{isFlat2, isSecond, isSharp4, isSus, omit3, omit5}
 use Rattle.house.specs.declared.kind.Kind.{Kind}
 use Rattle.lexer.specs.Lexer.{elem, headOf, isDigit, isLetter, lex, signOf}
@@ -117,7 +117,7 @@ concat-in-two (x ∷ []) [] h = refl
 concat-in-two (x ∷ []) (y ∷ b) h = not-taken (isMaj (x .kind)) (is seven y) _ _ h
 concat-in-two (x ∷ y ∷ ts) b h =
     both-end (isMaj (x .kind) && is seven y) _ _ _ _ (concat b)
-    (ap (λ (l : List Token). whole x y ∷ l) (concat-in-two ts b (plain-rest y ts h)))
+    (ap (λ (l : List Token). maj7With x y ∷ l) (concat-in-two ts b (plain-rest y ts h)))
     (ap (λ (l : List Token). x ∷ l) (concat-in-two (y ∷ ts) b h))
 
 -- a text that is cut by itself and ends plainly is folded by `concat` by itself

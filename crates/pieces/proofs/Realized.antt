@@ -43,7 +43,7 @@ use Rattle.pieces.proofs.TextLemma.{places, text-lemma}
 use Rattle.pieces.proofs.WellFormed.{spelled-utf8}
 use Rattle.pieces.specs.Spelling.{house, houseBy, spell}
 use Rattle.reader.proofs.Answers.{Way, accept, bytes, is-text, long, parse, validation, way}
-use Rattle.reader.specs.Reader.{IsAccepted, Outcome, accepted, answerTo, judge, tokensIn}
+use Rattle.reader.specs.Reader.{IsAccepted, ReadOutcome, accepted, answerTo, judge, tokensIn}
 use Rattle.step.specs.Bounds.{Sound}
 use Rattle.utf8.specs.Utf8.{wellFormed}
 use Rattle.validator.specs.Validator.{allFrom, conflictAt, expressionErrors, extensionErrors, extensionFault, firstWrong, isNil, only, orElse, repeated, semitoneErrors, setValid, validationOf}
@@ -54,7 +54,7 @@ abbrev expsIn : List ℕ → List Exp
 expsIn t = parseOf (tokensIn t) .exps
 
 -- no error of the parser, none of validation, and the outcome is the accepted one
-passed-all : (t : List ℕ) {o : Outcome} → Way t o → o .number ≡ 0
+passed-all : (t : List ℕ) {o : ReadOutcome} → Way t o → o .number ≡ 0
     → (parseOf (tokensIn t) .errs ≡ []) × (validationOf (expsIn t) (evalSet (expsIn t)) ≡ [])
     × (o ≡ accepted (rootOf (tokensIn t)) (expsIn t))
 passed-all t (long h) e = absurd (omega (arith, e))
@@ -191,8 +191,8 @@ spelling-realizes f h =
     let t : house f ≡ spell (h .root) (f .bass) (f .normalized) k = ap (λ (x : OptionalNote). houseBy x f) (h .rooted) in
     let z = ap answerTo t ∙ e in
     record {
-      number = ap (λ (x : Outcome). x .number) z;
-      four = ap (λ (x : Outcome). x .four) z ∙ (λ i. record { root = sym (h .rooted) i; bass = f .bass; normalized = f .normalized; display = sym (h .displayed) i });
+      number = ap (λ (x : ReadOutcome). x .number) z;
+      four = ap (λ (x : ReadOutcome). x .four) z ∙ (λ i. record { root = sym (h .rooted) i; bass = f .bass; normalized = f .normalized; display = sym (h .displayed) i });
     }
 
 -- the four of an accepted text are realizable
@@ -207,7 +207,7 @@ accepted-realizable t f a =
     let s = struct l o in
     let k : kindIn n (displayOf (firstSus l) n) ≡ kindOf (firstSus l) = kind-displayed (firstSus l) n (s .s11a) (s .s11b) (s .s11c) in
     let e : answerTo t ≡ accepted (Some (q .0)) l = w .2 ∙ ap (λ (x : OptionalNote). accepted x l) (q .1) in
-    subst Realizable (ap (λ (x : Outcome). x .four) (sym e) ∙ a .four)
+    subst Realizable (ap (λ (x : ReadOutcome). x .four) (sym e) ∙ a .four)
     (record {
       root = q .0;
       rooted = refl;

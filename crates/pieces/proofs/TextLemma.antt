@@ -23,14 +23,14 @@ use Rattle.expression.specs.declared.expression.Exp.the-variants.{Minor, Dim7, 
 use Rattle.expression.specs.declared.expression.Exp.{Exp}
 use Rattle.folding.proofs.Calm.{calm, unchanged, in-two}
 use Rattle.folding.specs.Folding.{concat, count, dim, dim7, fold7, foldOn, isMaj, join, maj, maj7, preProcess}
-use Rattle.house.specs.House.{given, isSome, noteIn, spellExps}
+use Rattle.house.specs.House.{given, isSome, noteOrC, spellExps}
 use Rattle.house.specs.declared.kind.Kind.{Kind}
 use Rattle.lexer.specs.Lexer.{elem, endOf, headOf, isDigit, isLetter, lex, signOf, tokensOf}
 use Rattle.lexer.specs.Text.{ascii}
 use Rattle.lexer.specs.Words.{longestOf, words}
 use Rattle.parser.specs.Parser.{Parsing, lastSix, nextAt, parseOf, rootOf, walk}
 use Rattle.step.specs.declared.context.Context.the-variants as context
-use Rattle.token.specs.Token.{Token, numberOf, token, typeOf}
+use Rattle.token.specs.Token.{Token, typeNumber, token, typeOf}
 use Rattle.token.specs.declared.TokenType.the-variants.{Eof}
 use Rattle.utf8.specs.Utf8.{bits, charOf, encode, isScalar}
 use Rattle.pieces.specs.Spelling.{letterText, signText, noteText, spell}
@@ -323,14 +323,14 @@ head-apart Flat diminished = each-letter (λ (l : NoteLiteral). (r : List ℕ) �
 
 -- as `written` ends
 abbrev pub bassText : OptionalNote → List ℕ
-bassText b = cond (isSome b) (ascii "/" ++ noteText (noteIn b)) [] ++ []
+bassText b = cond (isSome b) (ascii "/" ++ noteText (noteOrC b)) [] ++ []
 
 abbrev pub bassExps : OptionalNote → List Exp
-bassExps b = given (isSome b) (SlashBass (noteIn b)) []
+bassExps b = given (isSome b) (SlashBass (noteOrC b)) []
 
 -- the tokens of the bass at q, and End at e
 abbrev closing : OptionalNote → ℕ → ℕ → List Token
-closing b q e = concat (lex 0 [] q (bassText b) ++ (token (numberOf Eof) e 0 ∷ []))
+closing b q e = concat (lex 0 [] q (bassText b) ++ (token (typeNumber Eof) e 0 ∷ []))
 
 -- nothing, or a slash
 bass-border : (b : OptionalNote) → Border (bassText b)

@@ -12,7 +12,7 @@ use Rattle.chord.specs.declared.note.OptionalNote.the-variants.{None, Some}
 use Rattle.chord.specs.declared.note.OptionalNote.{OptionalNote}
 use Rattle.chord.specs.declared.note.RootModifier.the-variants.{Natural, Sharp, Flat}
 use Rattle.chord.specs.declared.note.RootModifier.{RootModifier}
-use Rattle.house.specs.House.{Part, part, kindIn, noteIn, parts}
+use Rattle.house.specs.House.{Part, part, kindIn, noteOrC, parts}
 use Rattle.house.specs.declared.kind.Kind.{Kind}
 use Rattle.lexer.specs.Text.{ascii}
 
@@ -61,7 +61,7 @@ texts bass =
     ∷ ascii ",add#11"
     ∷ ascii ",addb13"
     ∷ ascii ",add13"
-    ∷ (ascii "/" ++ noteText (noteIn bass))
+    ∷ (ascii "/" ++ noteText (noteOrC bass))
     ∷ []
 
 -- the texts of those parts whose condition holds

@@ -13,7 +13,7 @@ use Rattle.expression.specs.declared.expression.Exp.{Exp}
 use Rattle.parser.specs.Parser.{parseOf, rootOf}
 use Rattle.utf8.specs.Utf8.{wellFormed}
 use Rattle.validator.specs.Validator.{validationOf}
-use Rattle.reader.specs.Reader.{Outcome, accepted, answerTo, found, judge, parsed, readOf, refused, tokensIn}
+use Rattle.reader.specs.Reader.{ReadOutcome, accepted, answerTo, found, judge, parsed, readOf, refused, tokensIn}
 
 -- ---- from the questions to the outcome
 
@@ -28,7 +28,7 @@ module _ (room : ℕ) (text : List ℕ) where
 
 module _ (text : List ℕ) where
   -- the two questions of a text
-  abbrev asked : Bool → Bool → Outcome
+  abbrev asked : Bool → Bool → ReadOutcome
   asked b c = cond b (refused 2) (cond c (parsed (tokensIn text)) (refused 3))
 
   pub long-text : 256 < length text → answerTo text ≡ refused 2
@@ -55,7 +55,7 @@ module _ (text : List ℕ) where
   validationErrors = validationOf expsIn (evalSet expsIn)
 
   -- which question got no, with the outcome that it makes; the last is an accepted text
-  pub data Way : Outcome → Type 0 where
+  pub data Way : ReadOutcome → Type 0 where
     long : 256 < length text → Way (refused 2)
     bytes : length text ≤ 256 → wellFormed text ≡ false → Way (refused 3)
     parse : {x : ℕ} {e : List ℕ} → length text ≤ 256 → wellFormed text ≡ true → parseErrors ≡ x ∷ e → Way (found 4 (x ∷ e))
@@ -77,7 +77,7 @@ module _ (text : List ℕ) where
       by false true [] [] q u p v = accept (ltb-false 256 (length text) q) u p v
 
 -- the first question, with what it makes of the rest
-pub data Asked (room : ℕ) (text : List ℕ) : Outcome → Type 0 where
+pub data Asked (room : ℕ) (text : List ℕ) : ReadOutcome → Type 0 where
   short : room < 1028 → Asked room text (refused 1)
   enough : 1028 ≤ room → Asked room text (answerTo text)
 

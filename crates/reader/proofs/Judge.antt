@@ -16,8 +16,8 @@ use Rattle.token.specs.Token.{Token}
 use Rattle.step.specs.Bounds.{Sound}
 use Rattle.evaluator.specs.State.{Sounds}
 use Rattle.parser.specs.All.{All}
-use Rattle.reader.specs.Reader.{Outcome, countOf, judge, numberOf, parsed, refused, validated}
-use Rattle.reader.specs.State.{Gave}
+use Rattle.reader.specs.Reader.{ReadOutcome, countOf, judge, numberOf, parsed, refused, validated}
+use Rattle.reader.specs.State.{ReadGave}
 use Rattle.reader.specs.declared.Answer.{Answer}
 use Rattle.reader.specs.declared.Reading.{Reading}
 
@@ -31,9 +31,9 @@ pub counted : (n : ℕ) (more es : List ℕ) → 4 * n ≤ length es → take (4
 counted n more es h e = sym (length-take-le (4 * n) es h) ∙ ap length e
 
 -- errors were found
-pub gave-errors : (more : List ℕ) (k : ℕ) (o : Outcome) (n : ℕ) {r : Reading} {es es′ : List ℕ} → 0 < n → 4 * n ≡ length more
+pub gave-errors : (more : List ℕ) (k : ℕ) (o : ReadOutcome) (n : ℕ) {r : Reading} {es es′ : List ℕ} → 0 < n → 4 * n ≡ length more
     → take (4 * n) es′ ≡ more → drop (4 * n) es′ ≡ drop (4 * n) es → numberOf (r .answer) ≡ k → countOf (r .answer) ≡ n
-    → fourOf (r .chord) ≡ noChord → r .chord ≡ recordOf noChord → Gave (judge more k o) r es es′
+    → fourOf (r .chord) ≡ noChord → r .chord ≡ recordOf noChord → ReadGave (judge more k o) r es es′
 gave-errors [] k o n {r} {es} {es′} h m t d a b c w = absurd (omega (arith, h, m))
 gave-errors (x ∷ xs) k o n {r} {es} {es′} h m t d a b c w =
     let q : n ≡ length (x ∷ xs) / 4 = omega (arith, m) in
@@ -46,8 +46,8 @@ gave-errors (x ∷ xs) k o n {r} {es} {es′} h m t d a b c w =
     }
 
 -- none was
-pub gave-none : (more : List ℕ) (k : ℕ) (o : Outcome) {r : Reading} {es es′ : List ℕ} → length more ≡ 0 → Gave o r es es′
-    → Gave (judge more k o) r es es′
+pub gave-none : (more : List ℕ) (k : ℕ) (o : ReadOutcome) {r : Reading} {es es′ : List ℕ} → length more ≡ 0 → ReadGave o r es es′
+    → ReadGave (judge more k o) r es es′
 gave-none [] k o h g = g
 gave-none (x ∷ xs) k o h g = absurd (omega (arith, h))
 
@@ -58,16 +58,16 @@ untouched n {es} {es′} z d =
     subst (λ (j : ℕ). drop j es′ ≡ drop j es) e d
 
 -- a question got no, and the outcome is a refusal without errors
-pub gave-refused : {o : Outcome} {k : ℕ} {a : Answer} {r : Reading} (es : List ℕ) → o ≡ refused k → numberOf a ≡ k → countOf a ≡ 0
+pub gave-refused : {o : ReadOutcome} {k : ℕ} {a : Answer} {r : Reading} (es : List ℕ) → o ≡ refused k → numberOf a ≡ k → countOf a ≡ 0
     → r .answer ≡ a
-    → fourOf (r .chord) ≡ noChord → r .chord ≡ recordOf noChord → Gave o r es es
+    → fourOf (r .chord) ≡ noChord → r .chord ≡ recordOf noChord → ReadGave o r es es
 gave-refused {o} {k} {a} {r} es e n m h c w =
-    subst (λ (x : Outcome). Gave x r es es) (sym e)
+    subst (λ (x : ReadOutcome). ReadGave x r es es) (sym e)
     (record { number = ap numberOf h ∙ n; count = ap countOf h ∙ m; four = c; chord = w; list = refl })
 
 -- the same of an outcome that is equal
-pub gave-same : {o o′ : Outcome} {r : Reading} {es es′ : List ℕ} → o ≡ o′ → Gave o′ r es es′ → Gave o r es es′
-gave-same {o} {o′} {r} {es} {es′} e g = subst (λ (x : Outcome). Gave x r es es′) (sym e) g
+pub gave-same : {o o′ : ReadOutcome} {r : Reading} {es es′ : List ℕ} → o ≡ o′ → ReadGave o′ r es es′ → ReadGave o r es es′
+gave-same {o} {o′} {r} {es} {es′} e g = subst (λ (x : ReadOutcome). ReadGave x r es es′) (sym e) g
 
 pub sounds-all : (ys : List ℕ) → All Sound (map expOf ys) → Sounds ys
 sounds-all [] a i h = absurd (not-suc-le-zero h)
@@ -75,15 +75,15 @@ sounds-all (y ∷ ys) a zero h = a .0
 sounds-all (y ∷ ys) a (suc i) h = sounds-all ys (a .1) i (le-of-suc-le-suc h)
 
 -- the same of a root, expressions and a list that are equal
-pub as-is : {root root′ : OptionalNote} {l l′ : List Exp} {r : Reading} {e e′ es : List ℕ} → root ≡ root′ → l ≡ l′ → e ≡ e′ → Gave (validated root l) r e es → Gave (validated root′ l′) r e′ es
+pub as-is : {root root′ : OptionalNote} {l l′ : List Exp} {r : Reading} {e e′ es : List ℕ} → root ≡ root′ → l ≡ l′ → e ≡ e′ → ReadGave (validated root l) r e es → ReadGave (validated root′ l′) r e′ es
 as-is {root} {root′} {l} {l′} {r} {e} {e′} {es} p q u g =
-    subst (λ (x : OptionalNote). Gave (validated x l′) r e′ es) p
-    (subst (λ (x : List Exp). Gave (validated root x) r e′ es) q
-    (subst (λ (x : List ℕ). Gave (validated root l) r x es) u g))
+    subst (λ (x : OptionalNote). ReadGave (validated x l′) r e′ es) p
+    (subst (λ (x : List Exp). ReadGave (validated root x) r e′ es) q
+    (subst (λ (x : List ℕ). ReadGave (validated root l) r x es) u g))
 
 -- and of equal tokens
-pub as-tokens : {ts ts′ : List Token} {r : Reading} {es es′ : List ℕ} → ts ≡ ts′ → Gave (parsed ts) r es es′ → Gave (parsed ts′) r es es′
-as-tokens {ts} {ts′} {r} {es} {es′} e g = subst (λ (x : List Token). Gave (parsed x) r es es′) e g
+pub as-tokens : {ts ts′ : List Token} {r : Reading} {es es′ : List ℕ} → ts ≡ ts′ → ReadGave (parsed ts) r es es′ → ReadGave (parsed ts′) r es es′
+as-tokens {ts} {ts′} {r} {es} {es′} e g = subst (λ (x : List Token). ReadGave (parsed x) r es es′) e g
 
 pub no : (b : Bool) → not b ≡ true → b ≡ false
 no true e = sym e

@@ -37,38 +37,38 @@ countOf (Parse n) = n
 countOf (Validation n) = n
 
 -- what reading gives: the paper's number and count, the four, and what the lent list begins with after it
-pub record Outcome : Type 0 where
+pub record ReadOutcome : Type 0 where
   pub number : ℕ
   pub count : ℕ
   pub four : Four
   pub errs : List ℕ
 
 -- "Numbers 1, 2, 3 .. and an accepted text leave the lent memory untouched."
-abbrev pub refused : ℕ → Outcome
+abbrev pub refused : ℕ → ReadOutcome
 refused n = record { number = n; count = 0; four = noChord; errs = [] }
 
 -- "root, slash bass, `intervals`, `display_intervals`"
 abbrev pub fourBy : OptionalNote → List Exp → Four
 fourBy root l = record { root = root; bass = slashBass l; normalized = evalSet l; display = displayOf (firstSus l) (evalSet l) }
 
-abbrev pub accepted : OptionalNote → List Exp → Outcome
+abbrev pub accepted : OptionalNote → List Exp → ReadOutcome
 accepted root l = record { number = 0; count = 0; four = fourBy root l; errs = [] }
 
 -- "After 4 or 5 with n errors the first 4n numbers hold them"
-abbrev pub found : ℕ → List ℕ → Outcome
+abbrev pub found : ℕ → List ℕ → ReadOutcome
 found n e = record { number = n; count = length e / 4; four = noChord; errs = e }
 
 -- the number n with the errors, or o where there are none
-abbrev pub judge : List ℕ → ℕ → Outcome → Outcome
+abbrev pub judge : List ℕ → ℕ → ReadOutcome → ReadOutcome
 judge [] n o = o
 judge (x ∷ xs) n o = found n (x ∷ xs)
 
 -- "Did validation find no error? No: 5, with the count of errors."
-abbrev pub validated : OptionalNote → List Exp → Outcome
+abbrev pub validated : OptionalNote → List Exp → ReadOutcome
 validated root l = judge (validationOf l (evalSet l)) 5 (accepted root l)
 
 -- "Did parsing find no error? No: 4, with the count of errors."
-abbrev pub parsed : List Token → Outcome
+abbrev pub parsed : List Token → ReadOutcome
 parsed ts = judge (parseOf ts .errs) 4 (validated (rootOf ts) (parseOf ts .exps))
 
 -- the tokens that the parser reads
@@ -77,11 +77,11 @@ tokensIn text = preProcess (tokensOf text)
 
 -- the answer to a text, "given an error list that is long enough": "Is the text at most 256 bytes? No: 2. Is it UTF-8 by RFC 3629 ..? No:
 -- 3."
-unfoldable pub answerTo : List ℕ → Outcome
+unfoldable pub answerTo : List ℕ → ReadOutcome
 answerTo text = cond (ltb 256 (length text)) (refused 2) (cond (wellFormed text) (parsed (tokensIn text)) (refused 3))
 
 -- "Does the list hold at least 1,028 numbers? No: 1."
-unfoldable pub readOf : ℕ → List ℕ → Outcome
+unfoldable pub readOf : ℕ → List ℕ → ReadOutcome
 readOf room text = cond (ltb room 1028) (refused 1) (answerTo text)
 
 -- "A text is accepted when each question put to a card gets yes, given an error list that is long enough. Its four are the root, slash bass or

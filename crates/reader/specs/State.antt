@@ -7,10 +7,10 @@ use Rattle.chord.specs.Chord.{fourOf, recordOf}
 use Rattle.folding.specs.Folding.{preProcess}
 use Rattle.lexer.specs.Lexer.{tokensOf}
 use Rattle.token.specs.Token.{Ranged, Room, Token, rows}
-use Rattle.reader.specs.Reader.{Outcome, countOf, numberOf, readOf}
+use Rattle.reader.specs.Reader.{ReadOutcome, countOf, numberOf, readOf}
 use Rattle.reader.specs.declared.Reading.{Reading}
 
-pub record Gave (o : Outcome) (r : Reading) (es es′ : List ℕ) : Type 0 where
+pub record ReadGave (o : ReadOutcome) (r : Reading) (es es′ : List ℕ) : Type 0 where
   pub number : numberOf (r .answer) ≡ o .number
   pub count : countOf (r .answer) ≡ o .count
   pub four : fourOf (r .chord) ≡ o .four
@@ -19,7 +19,7 @@ pub record Gave (o : Outcome) (r : Reading) (es es′ : List ℕ) : Type 0 where
 
 -- what a caller of `read` knows: the text was read with the lent list es, which is es′ now, and the reading is r
 abbrev pub Read : (text es es′ : List ℕ) → Reading → Type 0
-Read text es es′ r = Gave (readOf (length es) text) r es es′
+Read text es es′ r = ReadGave (readOf (length es) text) r es es′
 
 -- the first e tokens are those of the text, folded
 pub record Tokenized (text : List ℕ) (e : ℕ) (ks ps ls : List ℕ) : Type 0 where

@@ -9,7 +9,7 @@ ghost use Rattle.evaluator.specs.State.{Sounds};
 ghost use Rattle.parser.specs.State.{Tokens};
 ghost use Rattle.token.specs.Token.{Room, rows};
 ghost use Rattle.reader.specs.Reader.{parsed, tokensIn, validated};
-ghost use Rattle.reader.specs.State.{Gave, Read, Tokenized};
+ghost use Rattle.reader.specs.State.{ReadGave, Read, Tokenized};
 use chord::Chord;
 use chord::note::OptionalNote;
 
@@ -42,7 +42,7 @@ fn refuse(answer: Answer) -> Reading
 // The chord of the expressions, if they and its set are valid.
 fn evaluate(root: OptionalNote, exps: &[u32], errs: &mut [u16]) -> Reading
     requires { ⌜ Sounds (now exps) × (length (now exps) ≤ 257) × (1028 ≤ length (now errs)) ⌝ }
-    ensures { λ r. ⌜ Gave (validated root (map expOf (now (exps .entry)))) r (now (errs .entry)) (now (errs .exit)) ⌝ }
+    ensures { λ r. ⌜ ReadGave (validated root (map expOf (now (exps .entry)))) r (now (errs .entry)) (now (errs .exit)) ⌝ }
 {
     let e = evaluator::evaluator::evaluate(exps);
     let set = e.set;
@@ -66,7 +66,7 @@ fn evaluate(root: OptionalNote, exps: &[u32], errs: &mut [u16]) -> Reading
 // The answer to the tokens that three arrays of one length hold.
 fn parse(kinds: &[u8], poss: &[u16], lens: &[u16], errs: &mut [u16]) -> Reading
     requires { ⌜ Tokens (now kinds) (now poss) (now lens) × (1028 ≤ length (now errs)) ⌝ }
-    ensures { λ r. ⌜ Gave (parsed (rows (now (kinds .entry)) (now (poss .entry)) (now (lens .entry)))) r (now (errs .entry)) (now (errs .exit)) ⌝ }
+    ensures { λ r. ⌜ ReadGave (parsed (rows (now (kinds .entry)) (now (poss .entry)) (now (lens .entry)))) r (now (errs .entry)) (now (errs .exit)) ⌝ }
 {
     let mut exps = [0u32; 257];
     let ast = parser::parser::parse(kinds, poss, lens, errs, &mut exps);
@@ -91,7 +91,7 @@ fn tokenize(text: &[u8], kinds: &mut [u8], poss: &mut [u16], lens: &mut [u16]) -
 // The answer to a text of at most 256 bytes that is UTF-8.
 fn read_text(text: &[u8], errs: &mut [u16]) -> Reading
     requires { ⌜ (length (now text) ≤ 256) × (1028 ≤ length (now errs)) ⌝ }
-    ensures { λ r. ⌜ Gave (parsed (tokensIn (now (text .entry)))) r (now (errs .entry)) (now (errs .exit)) ⌝ }
+    ensures { λ r. ⌜ ReadGave (parsed (tokensIn (now (text .entry)))) r (now (errs .entry)) (now (errs .exit)) ⌝ }
 {
     let mut kinds = [0u8; 257];
     let mut poss = [0u16; 257];

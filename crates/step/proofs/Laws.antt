@@ -16,8 +16,8 @@ use Rattle.token.specs.declared.TokenType.the-variants as type
 use Rattle.token.specs.declared.TokenType.{TokenType}
 use Rattle.step.proofs.Count.{near}
 use Rattle.step.specs.{Bounds.Small, Bounds.Sound, Bounds.SoundGains, Bounds.susBit, Context.memberOf, Context.onComma, Context.startGroup, Effect.taking, Effect.within, Interval.intervalOf, Interval.rowOf}
-use Rattle.behind.specs.Next.{isEnd, isMaj7, isNumber, isSign, noteIn, numberIn, signIn}
-use Rattle.step.specs.Step.{addInterval, addSigned, addTarget, insideOf, intervalAlone, isPower, lastly, modifierStep, noteStep, omitTarget, placed, sixNine, stepOf, susAllows}
+use Rattle.behind.specs.Next.{isEnd, isMaj7, isNumber, isSign, noteFrom, numberIn, signIn}
+use Rattle.step.specs.Step.{addInterval, addSigned, addTarget, insideOf, intervalAlone, isPower, thenEnd, modifierStep, noteStep, omitTarget, placed, sixNine, stepOf, susAllows}
 use Rattle.step.specs.declared.context.Context.the-variants as context
 use Rattle.step.specs.declared.context.GroupKind.the-variants as group
 use Rattle.step.specs.declared.step.Bracket.the-variants.{Opens, Closes, Ends, Other}
@@ -99,7 +99,7 @@ module _ (h : Here) where
         choice Left (isSign (a .first)) (λ e. target 1 (signIn (a .first)) (a .second) (a .pos2) (omega arith)) (λ e. target 0 Natural (a .first) (a .pos) (omega arith))
 
   -- the end of a slash, and a note behind it
-  ended : (nx : Next) {e : Effect} → Good h e → Good h (lastly h nx e)
+  ended : (nx : Next) {e : Effect} → Good h e → Good h (thenEnd h nx e)
   ended nx g = choice (Good h) (isEnd nx) (λ e. g) (λ e. (omega (arith, g .0), g .1))
 
   bass : (n : OptionalNote) (a : Ahead) → Good h (noteStep n h a)
@@ -125,7 +125,7 @@ step-good type.Hyphen h a = choice (Good h) (eqb (numberIn (a .first)) 5) (λ e.
 step-good type.Maj h a = omega arith
 step-good type.Maj7 h a = omega arith
 step-good type.Slash h a =
-    choice (Good h) (sixNine h (a .first)) (λ e. ended h (a .second) (omega arith)) (λ e. bass h (noteIn (a .first) (signIn (a .second))) a)
+    choice (Good h) (sixNine h (a .first)) (λ e. ended h (a .second) (omega arith)) (λ e. bass h (noteFrom (a .first) (signIn (a .second))) a)
 step-good type.LParent h a = omega (arith, near (h .count))
 step-good type.RParent h a = omega (arith, near (h .count))
 step-good type.Comma h a = omega (arith, comma-calm (h .context))

@@ -20,11 +20,11 @@ abbrev pub flat : List ℕ
 flat = 23 ∷ 23 ∷ 1 ∷ 3 ∷ 23 ∷ 7 ∷ 10 ∷ 13 ∷ 23 ∷ 16 ∷ 23 ∷ 23 ∷ 23 ∷ 21 ∷ []
 
 -- its choice by the sign
-abbrev pub rowOf : RootModifier → List ℕ
-rowOf Natural = natural
-rowOf Sharp = sharp
-rowOf Flat = flat
+abbrev pub intervalsBy : RootModifier → List ℕ
+intervalsBy Natural = natural
+intervalsBy Sharp = sharp
+intervalsBy Flat = flat
 
 -- `from_modifier_extension`: no number above 13 has an interval
 abbrev pub intervalOf : RootModifier → ℕ → ℕ
-intervalOf m n = cond (ltb n 14) (getD (rowOf m) n 0) 23
+intervalOf m n = cond (ltb n 14) (getD (intervalsBy m) n 0) 23

@@ -16,7 +16,7 @@ use Rattle.token.specs.declared.TokenType.{TokenType}
 use Rattle.step.specs.Context.{isNone, memberOf, onComma, startGroup}
 use Rattle.step.specs.Effect.{counting, erring, failing, kept, pushing, pushing2, taking, within}
 use Rattle.step.specs.Interval.{intervalOf}
-use Rattle.behind.specs.Next.{isEnd, isMaj7, isNumber, isSign, noteIn, numberIn, signIn}
+use Rattle.behind.specs.Next.{isEnd, isMaj7, isNumber, isSign, noteFrom, numberIn, signIn}
 use Rattle.step.specs.declared.context.Context.the-variants as context
 use Rattle.step.specs.declared.context.Context.{Context}
 use Rattle.step.specs.declared.context.GroupKind.the-variants as group
@@ -108,13 +108,13 @@ abbrev pub sixNine : Here → Next → Bool
 sixNine h nx = eqb (numberIn nx) 9 && h .six
 
 -- "After those two, a next token other than End gives kind 14 too and is still read."
-abbrev pub lastly : Here → Next → Effect → Effect
-lastly h nx e = cond (isEnd nx) e (erring (IllegalSlashNotation (h .pos)) e)
+abbrev pub thenEnd : Here → Next → Effect → Effect
+thenEnd h nx e = cond (isEnd nx) e (erring (IllegalSlashNotation (h .pos)) e)
 
 -- "a note, with its sign, is the bass"
 abbrev pub bassStep : Note → Here → Ahead → Effect
 bassStep n h a =
-    cond (isSign (a .second)) (lastly h (a .third) (taking 2 (pushing h (SlashBass n)))) (lastly h (a .second) (taking 1 (pushing h (SlashBass n))))
+    cond (isSign (a .second)) (thenEnd h (a .third) (taking 2 (pushing h (SlashBass n)))) (thenEnd h (a .second) (taking 1 (pushing h (SlashBass n))))
 
 -- "a note, with its sign, is the bass; anything else gives kind 14 at the slash"
 abbrev pub noteStep : OptionalNote → Here → Ahead → Effect
@@ -124,20 +124,20 @@ noteStep optional.None h a = taking 1 (failing h (IllegalSlashNotation (h .pos))
 -- "A slash always consumes the token after it." (`slash`)
 abbrev pub slashStep : Here → Ahead → Effect
 slashStep h a =
-    cond (sixNine h (a .first)) (lastly h (a .second) (taking 1 (pushing h (Add 17 (a .pos)))))
-    (noteStep (noteIn (a .first) (signIn (a .second))) h a)
+    cond (sixNine h (a .first)) (thenEnd h (a .second) (taking 1 (pushing h (Add 17 (a .pos)))))
+    (noteStep (noteFrom (a .first) (signIn (a .second))) h a)
 
 -- "an opening sign sets the state to none" (`lparen`)
 abbrev pub openStep : Here → Effect
 openStep h = within context.None (counting (h .count +ℤ pos 1) (kept h))
 
 -- `lparen` at its closing sign: "Closing a bracket does not end an Add or Omit group opened inside it"
-abbrev pub closed : Here → Effect
-closed h = counting (h .count -ℤ pos 1) (kept h)
+abbrev pub matchedClose : Here → Effect
+matchedClose h = counting (h .count -ℤ pos 1) (kept h)
 
 -- "A closing sign outside any bracket always gives kind 15 and lowers the count by one, below 0 if need be." (`rparen`)
-abbrev pub closeStep : Here → Effect
-closeStep h = within context.None (erring (UnexpectedClosingParenthesis (h .pos)) (counting (h .count -ℤ pos 1) (kept h)))
+abbrev pub unmatchedClose : Here → Effect
+unmatchedClose h = within context.None (erring (UnexpectedClosingParenthesis (h .pos)) (counting (h .count -ℤ pos 1) (kept h)))
 
 -- `comma`
 abbrev pub commaStep : Here → Effect
@@ -163,7 +163,7 @@ stepOf type.Maj h a = pushing h Maj
 stepOf type.Maj7 h a = pushing h Maj7
 stepOf type.Slash h a = slashStep h a
 stepOf type.LParent h a = openStep h
-stepOf type.RParent h a = closeStep h
+stepOf type.RParent h a = unmatchedClose h
 stepOf type.Comma h a = commaStep h
 stepOf type.Bass h a = pushing h Bass
 stepOf type.Illegal h a = failing h (IllegalToken (h .pos))
@@ -198,7 +198,7 @@ bracketKind type.Eof = Ends
 -- `lparen`, in the bracket opened at q: "the innermost open bracket meets End and gives kind 16 at its own position"; "An inner
 -- bracket gives kind 17 at the outer one's position and is still read."
 abbrev pub insideOf : Bracket → ℕ → TokenType → Here → Ahead → Effect
-insideOf Closes q k h a = closed h
+insideOf Closes q k h a = matchedClose h
 insideOf Ends q k h a = failing h (MissingClosingParenthesis q)
 insideOf Opens q k h a = erring (NestedParenthesis q) (openStep h)
 insideOf Other q k h a = stepOf k h a

@@ -4,7 +4,7 @@ ghost use Prim.Native.Nat.{_+_, _<_};
 ghost use lib.Signed.{mag, ltZ};
 ghost use lib.IntN.{pos, _-ℤ_};
 ghost use Rattle.step.specs.Effect.{counting, kept, pushing, taking};
-ghost use Rattle.step.specs.Step.{intervalAlone, susAllows, intervalInSus, addInterval, placed, modifierStep, isPower, numberStep, augStep, hyphenStep, susStep, omitTarget, omitStep, addTarget, addSigned, addStep, sixNine, lastly, bassStep, slashStep, openStep, closed, closeStep, commaStep, stepOf, insideOf, bracketKind};
+ghost use Rattle.step.specs.Step.{intervalAlone, susAllows, intervalInSus, addInterval, placed, modifierStep, isPower, numberStep, augStep, hyphenStep, susStep, omitTarget, omitStep, addTarget, addSigned, addStep, sixNine, thenEnd, bassStep, slashStep, openStep, matchedClose, unmatchedClose, commaStep, stepOf, insideOf, bracketKind};
 use crate::context::Context;
 use crate::context::GroupKind;
 use crate::effect::Effect;
@@ -257,7 +257,7 @@ fn is_six_nine(h: Here, next: Next) -> bool
 
 // After 6/9 or a bass only End may come.
 fn last(h: Here, next: Next, e: Exp, taken: usize) -> Effect
-    ensures { λ r. ⌜ r ≡ lastly h next (taking taken (pushing h e)) ⌝ }
+    ensures { λ r. ⌜ r ≡ thenEnd h next (taking taken (pushing h e)) ⌝ }
 {
     let after = push(h, e, taken);
     if next.is_eof() {
@@ -324,7 +324,7 @@ fn lower(h: Here) -> Effect
 // A closing sign of a bracket only lowers the count.
 fn close(h: Here) -> Effect
     requires { ⌜ mag (h .count) < 1000 ⌝ }
-    ensures { λ r. ⌜ r ≡ closed h ⌝ }
+    ensures { λ r. ⌜ r ≡ matchedClose h ⌝ }
 {
     lower(h)
 }
@@ -332,7 +332,7 @@ fn close(h: Here) -> Effect
 // A closing sign outside any bracket is an error too, and sets the state to none.
 fn rparen(h: Here) -> Effect
     requires { ⌜ mag (h .count) < 1000 ⌝ }
-    ensures { λ r. ⌜ r ≡ closeStep h ⌝ }
+    ensures { λ r. ⌜ r ≡ unmatchedClose h ⌝ }
 {
     lower(h)
         .set_error(ParserError::UnexpectedClosingParenthesis(h.pos))

@@ -7,7 +7,7 @@ use Prim.Native.Nat.{ℕ, zero, suc, _+_, _-_, _≤_}
 use native.Mathlib.Omega.{arith}
 use lib.Dec.{eqb}
 use lib.ListN.{length, length-append}
-use Rattle.folding.specs.Folding.{is, seven, dim, dim7, maj, maj7, isMaj, whole, concat, count, paired, join, taken, foldOn, fold7, preProcess}
+use Rattle.folding.specs.Folding.{is, seven, dim, dim7, maj, maj7, isMaj, maj7With, concat, count, paired, join, taken, foldOn, fold7, preProcess}
 use Rattle.lexer.specs.Lexer.{headOf, emit, lex, endOf, illegal, signPos, tokensOf}
 use Rattle.lexer.specs.declared.Head.the-variants as head
 use Rattle.lexer.specs.declared.Head.{Head}
@@ -41,7 +41,7 @@ concat-few (x ∷ []) = omega arith
 concat-few (x ∷ y ∷ ts) = go (isMaj (x .kind) && is seven y) (concat-few ts) (concat-few (y ∷ ts))
   where
     go : (b : Bool) → length (concat ts) ≤ length ts → length (concat (y ∷ ts)) ≤ suc (length ts)
-        → length (cond b (whole x y ∷ concat ts) (x ∷ concat (y ∷ ts))) ≤ suc (suc (length ts))
+        → length (cond b (maj7With x y ∷ concat ts) (x ∷ concat (y ∷ ts))) ≤ suc (suc (length ts))
     go true f g = omega (arith, f)
     go false f g = omega (arith, g)
 

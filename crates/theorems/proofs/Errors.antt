@@ -8,7 +8,7 @@ use native.Mathlib.Omega.{arith}
 use lib.Dec.{T, eqb, ltb}
 use lib.IntN.{pos}
 use lib.ListN.{drop, getD, length, length-append}
-use Rattle.behind.specs.Next.{isEnd, isMaj7, isNumber, isSign, noteIn, numberIn, signIn}
+use Rattle.behind.specs.Next.{isEnd, isMaj7, isNumber, isSign, noteFrom, numberIn, signIn}
 use Rattle.behind.specs.declared.Ahead.{Ahead}
 use Rattle.behind.specs.declared.Next.{Next}
 use Rattle.chord.specs.Interval.{Set, empty, semitones}
@@ -21,7 +21,7 @@ use Rattle.expression.specs.declared.expression.Exp.the-variants as exp
 use Rattle.expression.specs.declared.expression.Exp.{Exp}
 use Rattle.expression.specs.declared.parser_error.ParserError.the-variants.{DuplicateModifier, InconsistentExtension, DuplicateExtension, InvalidExtension, WrongExpressionTarget, ThreeConsecutiveSemitones}
 use Rattle.expression.specs.declared.parser_error.ParserError.{ParserError}
-use Rattle.parser.specs.Parser.{Parsing, aheadOf, applied, blank, effectAt, errorOf, hereOf, nextAt, parseOf, rootEffect, rootOf, stackTurn, turn, walk}
+use Rattle.parser.specs.Parser.{Parsing, aheadOf, applied, blank, effectAt, errorOf, hereOf, nextAt, parseOf, rootEffect, rootOf, stackTurn, tokenTurn, walk}
 use Rattle.step.specs.Effect.{taking}
 use Rattle.step.specs.Interval.{intervalOf}
 use Rattle.step.specs.Step.{addInterval, addSigned, addTarget, bracketKind, insideOf, intervalAlone, isPower, modifierStep, noteStep, omitTarget, placed, sixNine, stepOf, susAllows}
@@ -36,7 +36,7 @@ use Rattle.step.specs.declared.step.Bracket.{Bracket}
 use Rattle.token.specs.Token.{Token, typeOf}
 use Rattle.token.specs.declared.TokenType.the-variants as type
 use Rattle.token.specs.declared.TokenType.{TokenType}
-use Rattle.validator.specs.Validator.{only, orElse, firstFrom, allFrom, wrongOf, firstWrong, countOf, repeatedAt, repeated, expressionErrors, among, addTargets, omitTargets, badExtensions, faultOf, seeing, extensionFault, reported, others, conflictAt, extensionErrors, lastBelow, neighboursAt, present, three, semitoneErrors, validationOf}
+use Rattle.validator.specs.Validator.{only, orElse, firstFrom, allFrom, wrongOf, firstWrong, timesOf, repeatedAt, repeated, expressionErrors, among, addTargets, omitTargets, badExtensions, faultOf, seeing, extensionFault, reported, others, conflictAt, extensionErrors, lastBelow, neighboursAt, present, three, semitoneErrors, validationOf}
 use Rattle.parser.proofs.Laws.{errors-most}
 
 -- 1 to 17 but for 13
@@ -126,7 +126,7 @@ step-calm type.Hyphen h a = choice Calm (eqb (numberIn (a .first)) 5) tt tt
 step-calm type.Maj h a = tt
 step-calm type.Maj7 h a = tt
 step-calm type.Slash h a = choice Calm (sixNine h (a .first)) (choice Calm (isEnd (a .second)) tt tt)
-    (bass h (noteIn (a .first) (signIn (a .second))) a)
+    (bass h (noteFrom (a .first) (signIn (a .second))) a)
 step-calm type.LParent h a = tt
 step-calm type.RParent h a = tt
 step-calm type.Comma h a = tt
@@ -150,7 +150,7 @@ error-rows : (e : OptionalError) → Fine e → Rows (errorOf e)
 error-rows error.None f = none
 error-rows (error.Some e) f = one-row e f
 
-turn-rows : (n : ℕ) (stk : List ℕ) (s : Parsing) (t : Token) (ts : List Token) → Rows (s .errs) → Rows (turn n stk s t ts .errs)
+turn-rows : (n : ℕ) (stk : List ℕ) (s : Parsing) (t : Token) (ts : List Token) → Rows (s .errs) → Rows (tokenTurn n stk s t ts .errs)
 turn-rows zero stk s t ts r =
     let e = effectAt stk (typeOf (t .kind)) (hereOf t s) (aheadOf ts) in
     both-rows r (error-rows (e .error) (effect-calm stk (typeOf (t .kind)) (hereOf t s) (aheadOf ts)))
@@ -159,7 +159,7 @@ turn-rows (suc n) stk s t ts r = r
 walk-rows : (stk : List ℕ) (s : Parsing) (ts : List Token) → Rows (s .errs) → Rows (walk stk s ts .errs)
 unfolding walk
 walk-rows stk s [] r = r
-walk-rows stk s (t ∷ ts) r = walk-rows (stackTurn (s .skip) stk t) (turn (s .skip) stk s t ts) ts (turn-rows (s .skip) stk s t ts r)
+walk-rows stk s (t ∷ ts) r = walk-rows (stackTurn (s .skip) stk t) (tokenTurn (s .skip) stk s t ts) ts (turn-rows (s .skip) stk s t ts r)
 
 root-rows : (n : OptionalNote) (nx : Next) → Rows (applied (rootEffect n nx) blank .errs)
 root-rows (optional.Some n) nx = none
@@ -261,7 +261,7 @@ extension-fault-errors seen (e ∷ l) = else-errors (faultOf seen e) (extensionF
     (extension-fault-errors (seeing seen e) l)
 
 repeated-errors : (l : List Exp) → Errors 1 (repeated l)
-repeated-errors l = first-errors (repeatedAt (countOf l)) (λ p. only-errors (ltb 1 (countOf l p)) (DuplicateModifier p) tt) 15 0
+repeated-errors l = first-errors (repeatedAt (timesOf l)) (λ p. only-errors (ltb 1 (timesOf l p)) (DuplicateModifier p) tt) 15 0
 
 expression-errors : (l : List Exp) → Errors 1 (expressionErrors l)
 expression-errors l = else-errors (firstWrong l) (repeated l) (first-wrong-errors l) (repeated-errors l)

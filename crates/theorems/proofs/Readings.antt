@@ -19,7 +19,7 @@ use Rattle.nophtris.specs.State as C
 use Rattle.parser.specs.Parser.{parseOf}
 use Rattle.pieces.proofs.Realized.{accepted-realizable}
 use Rattle.reader.proofs.Answers.{Asked, Way, accept, asked-first, bytes, enough, long, long-list, parse, short, validation, way}
-use Rattle.reader.specs.Reader.{IsAccepted, Outcome, answerTo, countOf, numberOf, readOf, tokensIn}
+use Rattle.reader.specs.Reader.{IsAccepted, ReadOutcome, answerTo, countOf, numberOf, readOf, tokensIn}
 use Rattle.reader.specs.State.{Read}
 use Rattle.reader.specs.declared.Answer.the-variants.{Accepted, LongText, NotUtf8, Parse, ShortList, Validation}
 use Rattle.reader.specs.declared.Answer.{Answer}
@@ -57,28 +57,28 @@ module _ (text : List ℕ) where
   no-errors : {l : List ℕ} → l ≡ [] → 1 ≤ length l → ⊥
   no-errors p h = let z = ap length p in omega (arith, z, h)
 
-  is-2 : {o : Outcome} → Way text o → (o .number ≡ 2) ↔ (256 < length text)
+  is-2 : {o : ReadOutcome} → Way text o → (o .number ≡ 2) ↔ (256 < length text)
   is-2 (long k) = yes refl k
   is-2 (bytes k u) = no (λ e. omega (arith, e)) (λ z. omega (arith, k, z))
   is-2 (parse k u p) = no (λ e. omega (arith, e)) (λ z. omega (arith, k, z))
   is-2 (validation k u p v) = no (λ e. omega (arith, e)) (λ z. omega (arith, k, z))
   is-2 (accept k u p v) = no (λ e. omega (arith, e)) (λ z. omega (arith, k, z))
 
-  is-3 : {o : Outcome} → Way text o → (o .number ≡ 3) ↔ ((length text ≤ 256) × (WellFormed text → ⊥))
+  is-3 : {o : ReadOutcome} → Way text o → (o .number ≡ 3) ↔ ((length text ≤ 256) × (WellFormed text → ⊥))
   is-3 (long k) = no (λ e. omega (arith, e)) (λ z. omega (arith, k, z .0))
   is-3 (bytes k u) = yes refl (k, ill-formed u)
   is-3 (parse k u p) = no (λ e. omega (arith, e)) (λ z. z .1 (formed u))
   is-3 (validation k u p v) = no (λ e. omega (arith, e)) (λ z. z .1 (formed u))
   is-3 (accept k u p v) = no (λ e. omega (arith, e)) (λ z. z .1 (formed u))
 
-  is-4 : {o : Outcome} → Way text o → (o .number ≡ 4) ↔ ((length text ≤ 256) × WellFormed text × (1 ≤ length (parseErrors text)))
+  is-4 : {o : ReadOutcome} → Way text o → (o .number ≡ 4) ↔ ((length text ≤ 256) × WellFormed text × (1 ≤ length (parseErrors text)))
   is-4 (long k) = no (λ e. omega (arith, e)) (λ z. omega (arith, k, z .0))
   is-4 (bytes k u) = no (λ e. omega (arith, e)) (λ z. ill-formed u (z .1))
   is-4 (parse k u p) = yes refl (k, formed u, some-errors p)
   is-4 (validation k u p v) = no (λ e. omega (arith, e)) (λ z. no-errors p (z .2))
   is-4 (accept k u p v) = no (λ e. omega (arith, e)) (λ z. no-errors p (z .2))
 
-  is-5 : {o : Outcome} → Way text o
+  is-5 : {o : ReadOutcome} → Way text o
       → (o .number ≡ 5) ↔ ((length text ≤ 256) × WellFormed text × (parseErrors text ≡ []) × (1 ≤ length (validationErrors text)))
   is-5 (long k) = no (λ e. omega (arith, e)) (λ z. omega (arith, k, z .0))
   is-5 (bytes k u) = no (λ e. omega (arith, e)) (λ z. ill-formed u (z .1))
@@ -86,7 +86,7 @@ module _ (text : List ℕ) where
   is-5 (validation k u p v) = yes refl (k, formed u, p, some-errors v)
   is-5 (accept k u p v) = no (λ e. omega (arith, e)) (λ z. no-errors v (z .3))
 
-  most : {o : Outcome} → Way text o → o .number ≤ 5
+  most : {o : ReadOutcome} → Way text o → o .number ≤ 5
   most (long k) = omega arith
   most (bytes k u) = omega arith
   most (parse k u p) = omega arith
@@ -94,7 +94,7 @@ module _ (text : List ℕ) where
   most (accept k u p v) = omega arith
 
   -- with the list's question before them
-  numbered : (room : ℕ) {o : Outcome} → Asked room text o → Numbered room text (o .number)
+  numbered : (room : ℕ) {o : ReadOutcome} → Asked room text o → Numbered room text (o .number)
   numbered room (short h) =
       record {
         one = yes refl h;
@@ -117,7 +117,7 @@ module _ (text : List ℕ) where
         most = most w;
       }
     where
-      answered : {o : Outcome} → Way text o → o .number ≡ 1 → ⊥
+      answered : {o : ReadOutcome} → Way text o → o .number ≡ 1 → ⊥
       answered (long k) e = omega (arith, e)
       answered (bytes k u) e = omega (arith, e)
       answered (parse k u p) e = omega (arith, e)
@@ -127,7 +127,7 @@ module _ (text : List ℕ) where
   -- ---- the errors
 
   -- errors that were found
-  found-errors : {o : Outcome} → Way text o → 4 ≤ o .number
+  found-errors : {o : ReadOutcome} → Way text o → 4 ≤ o .number
       → errors.Errors 257 (o .errs) × (1 ≤ length (o .errs)) × (o .count ≡ length (o .errs) / 4)
   found-errors (long k) h = absurd (omega (arith, h))
   found-errors (bytes k u) h = absurd (omega (arith, h))
@@ -137,7 +137,7 @@ module _ (text : List ℕ) where
       (subst (errors.Errors 257) v (validation-errors l (evalSet l)), omega arith, refl)
   found-errors (accept k u p v) h = absurd (omega (arith, h))
 
-  nothing-found : {o : Outcome} → Way text o → o .number ≤ 3 → (o .errs ≡ []) × (o .count ≡ 0)
+  nothing-found : {o : ReadOutcome} → Way text o → o .number ≤ 3 → (o .errs ≡ []) × (o .count ≡ 0)
   nothing-found (long k) h = (refl, refl)
   nothing-found (bytes k u) h = (refl, refl)
   nothing-found (parse k u p) h = absurd (omega (arith, h))
@@ -154,7 +154,7 @@ module _ (text : List ℕ) where
         λ e. subst (λ (n : ℕ). T (occurs n)) e t,
       )
 
-  listed : (es es′ : List ℕ) (count : ℕ) {o : Outcome} → Asked (length es) text o → 4 ≤ o .number → count ≡ o .count
+  listed : (es es′ : List ℕ) (count : ℕ) {o : ReadOutcome} → Asked (length es) text o → 4 ≤ o .number → count ≡ o .count
       → es′ ≡ o .errs ++ drop (length (o .errs)) es → Errors text es es′ count
   listed es es′ count (short k) h c l = absurd (omega (arith, h))
   listed es es′ count (enough k) h c l =
@@ -176,7 +176,7 @@ module _ (text : List ℕ) where
             kind-of (getD es′ (4 * i) 0) (subst (λ (n : ℕ). T (occurs n)) (sym g) (row-at (f .0 .rows) i b));
       }
 
-  unlisted : (es es′ : List ℕ) {o : Outcome} → Asked (length es) text o → o .number ≤ 3 → es′ ≡ o .errs ++ drop (length (o .errs)) es
+  unlisted : (es es′ : List ℕ) {o : ReadOutcome} → Asked (length es) text o → o .number ≤ 3 → es′ ≡ o .errs ++ drop (length (o .errs)) es
       → (es′ ≡ es) × (o .count ≡ 0)
   unlisted es es′ (short k) h l = (l, refl)
   unlisted es es′ (enough k) h l =
@@ -185,19 +185,19 @@ module _ (text : List ℕ) where
 
   -- ---- the record
 
-  accepted-four : (room : ℕ) {o : Outcome} → Asked room text o → o .number ≡ 0
+  accepted-four : (room : ℕ) {o : ReadOutcome} → Asked room text o → o .number ≡ 0
       → (o .four ≡ fourOfText text) × IsAccepted text (fourOfText text)
   accepted-four room (short h) e = absurd (omega (arith, e))
   accepted-four room (enough h) e = (refl, record { number = e; four = refl })
 
-  refused-four : {o : Outcome} → Way text o → (o .number ≡ 0 → ⊥) → o .four ≡ noChord
+  refused-four : {o : ReadOutcome} → Way text o → (o .number ≡ 0 → ⊥) → o .four ≡ noChord
   refused-four (long k) n = refl
   refused-four (bytes k u) n = refl
   refused-four (parse k u p) n = refl
   refused-four (validation k u p v) n = refl
   refused-four (accept k u p v) n = absurd (n refl)
 
-  no-four : (room : ℕ) {o : Outcome} → Asked room text o → (o .number ≡ 0 → ⊥) → o .four ≡ noChord
+  no-four : (room : ℕ) {o : ReadOutcome} → Asked room text o → (o .number ≡ 0 → ⊥) → o .four ≡ noChord
   no-four room (short h) n = refl
   no-four room (enough h) n = refused-four (way text) n
 
@@ -207,7 +207,7 @@ pub reads-as : (room : ℕ) (text : List ℕ) (f : Four) → IsAccepted text f �
     → (readOf room text .number ≡ 0) × (readOf room text .four ≡ f)
 reads-as room text f a h =
     let m = long-list room text h in
-    (ap (λ (o : Outcome). o .number) m ∙ a .number, ap (λ (o : Outcome). o .four) m ∙ a .four)
+    (ap (λ (o : ReadOutcome). o .number) m ∙ a .number, ap (λ (o : ReadOutcome). o .four) m ∙ a .four)
 
 -- ---- `reader::read`
 
@@ -259,25 +259,25 @@ read-apart a b e c = sym (answer-back a) ∙ (λ i. answerOf (e i) (c i)) ∙ an
 -- ---- `nophtris_read`
 
 module _ (text : List ℕ) where
-  counted : {o : Outcome} → Way text o → (c : ℕ) → 4 ≤ o .number → countAfter o c ≡ o .count
+  counted : {o : ReadOutcome} → Way text o → (c : ℕ) → 4 ≤ o .number → countAfter o c ≡ o .count
   counted (long k) c h = absurd (omega (arith, h))
   counted (bytes k u) c h = absurd (omega (arith, h))
   counted (parse k u p) c h = refl
   counted (validation k u p v) c h = refl
   counted (accept k u p v) c h = absurd (omega (arith, h))
 
-  uncounted : {o : Outcome} → Way text o → (c : ℕ) → o .number ≤ 3 → countAfter o c ≡ c
+  uncounted : {o : ReadOutcome} → Way text o → (c : ℕ) → o .number ≤ 3 → countAfter o c ≡ c
   uncounted (long k) c h = refl
   uncounted (bytes k u) c h = refl
   uncounted (parse k u p) c h = absurd (omega (arith, h))
   uncounted (validation k u p v) c h = absurd (omega (arith, h))
   uncounted (accept k u p v) c h = refl
 
-  counted-first : (room : ℕ) {o : Outcome} → Asked room text o → (c : ℕ) → 4 ≤ o .number → countAfter o c ≡ o .count
+  counted-first : (room : ℕ) {o : ReadOutcome} → Asked room text o → (c : ℕ) → 4 ≤ o .number → countAfter o c ≡ o .count
   counted-first room (short k) c h = absurd (omega (arith, h))
   counted-first room (enough k) c h = counted (way text) c h
 
-  uncounted-first : (room : ℕ) {o : Outcome} → Asked room text o → (c : ℕ) → o .number ≤ 3 → countAfter o c ≡ c
+  uncounted-first : (room : ℕ) {o : ReadOutcome} → Asked room text o → (c : ℕ) → o .number ≤ 3 → countAfter o c ≡ c
   uncounted-first room (short k) c h = refl
   uncounted-first room (enough k) c h = uncounted (way text) c h
 

@@ -10,9 +10,9 @@ use Rattle.parser.specs.Parser.{lastSix, walk}
 use Rattle.reader.specs.Reader.{answerTo}
 use Rattle.token.specs.Token.{typeOf}
 use Rattle.utf8.specs.Utf8.{bits, charOf, encode, isScalar, wellFrom}
-use Rattle.validator.specs.Validator.{allFrom, countOf, extensionFault, firstFrom, firstWrong, lastBelow, semitoneErrors, validationOf}
+use Rattle.validator.specs.Validator.{allFrom, timesOf, extensionFault, firstFrom, firstWrong, lastBelow, semitoneErrors, validationOf}
 use Rattle.theorems.specs.Specimens.{ReadAsSaid}
 
 pub read-as-said : ReadAsSaid
-unfolding elem headOf isDigit isLetter lex signOf longestOf words concat count foldOn isMaj join lastSix walk typeOf bits charOf encode isScalar wellFrom answerTo displayOf order insert remove allFrom countOf extensionFault firstFrom firstWrong lastBelow semitoneErrors validationOf
+unfolding elem headOf isDigit isLetter lex signOf longestOf words concat count foldOn isMaj join lastSix walk typeOf bits charOf encode isScalar wellFrom answerTo displayOf order insert remove allFrom timesOf extensionFault firstFrom firstWrong lastBelow semitoneErrors validationOf
 read-as-said = refl

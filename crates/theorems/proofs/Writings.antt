@@ -26,24 +26,24 @@ use Rattle.theorems.specs.CWriting as C-writing
 use Rattle.theorems.specs.Writing.{NoText, Numbered, Spelled, WriteApart, WriteNumbered, WriteSpelled, WriteUntouched}
 use Rattle.writer.proofs.Answers.{Asked, Way, asked-first, decided, enough, has, lacks, short, way}
 use Rattle.writer.specs.State.{Written}
-use Rattle.writer.specs.Writer.{HasText, Outcome, answerTo, lengthOf, numberOf, refused, spelled, writeOf}
+use Rattle.writer.specs.Writer.{HasText, WriteOutcome, answerTo, lengthOf, numberOf, refused, spelled, writeOf}
 use Rattle.writer.specs.declared.Answer.the-variants as answer
 use Rattle.writer.specs.declared.Answer.{Answer}
 
 -- ---- a four, whose question the test decides
 
 module _ (f : Four) (d : (realizable f ≡ true) ↔ HasText f) where
-  is-7 : {o : Outcome} → Way f o → (o .number ≡ 7) ↔ (HasText f → ⊥)
+  is-7 : {o : WriteOutcome} → Way f o → (o .number ≡ 7) ↔ (HasText f → ⊥)
   is-7 (has e) = no (λ z. omega (arith, z)) (λ n. n (d .0 e))
   is-7 (lacks e) = yes refl (λ t. true≢false (sym (d .1 t) ∙ e))
 
   -- 0 with a spelling, 7 without
-  two-numbers : {o : Outcome} → Way f o → (o .number ≡ 6 → ⊥) × ((o .number ≡ 7 → ⊥) → o .number ≡ 0)
+  two-numbers : {o : WriteOutcome} → Way f o → (o .number ≡ 6 → ⊥) × ((o .number ≡ 7 → ⊥) → o .number ≡ 0)
   two-numbers (has e) = (λ z. omega (arith, z), λ n. refl)
   two-numbers (lacks e) = (λ z. omega (arith, z), λ n. absurd (n refl))
 
   -- with 0 it was spelled, and the spelling is accepted with the four
-  spelled-at : {o : Outcome} → Way f o → o .number ≡ 0 → (o ≡ spelled (house f)) × IsAccepted (house f) f
+  spelled-at : {o : WriteOutcome} → Way f o → o .number ≡ 0 → (o ≡ spelled (house f)) × IsAccepted (house f) f
   spelled-at (has e) z = let t = d .0 e in (refl, spelling-realizes f (accepted-realizable (t .0) f (t .1)))
   spelled-at (lacks e) z = absurd (omega (arith, z))
 
@@ -57,22 +57,22 @@ module _ (f : Four) (d : (realizable f ≡ true) ↔ HasText f) where
       }
 
 -- the outcome of a four that was written
-untold : {o : Outcome} → (o .number ≡ 0 → ⊥) → (o .bytes ≡ []) × (o .length ≡ 0) → (bs : List ℕ)
+untold : {o : WriteOutcome} → (o .number ≡ 0 → ⊥) → (o .bytes ≡ []) × (o .length ≡ 0) → (bs : List ℕ)
     → o .bytes ++ drop (length (o .bytes)) bs ≡ bs
 untold n e bs = ap (λ (q : List ℕ). q ++ drop (length q) bs) (e .0)
 
-nothing : (f : Four) {o : Outcome} → Way f o → (o .number ≡ 0 → ⊥) → (o .bytes ≡ []) × (o .length ≡ 0)
+nothing : (f : Four) {o : WriteOutcome} → Way f o → (o .number ≡ 0 → ⊥) → (o .bytes ≡ []) × (o .length ≡ 0)
 nothing f (has e) n = absurd (n refl)
 nothing f (lacks e) n = (refl, refl)
 
 -- what stands in the buffer where the spelling of f was written
-pub spelt : (f : Four) (bs bs′ : List ℕ) (n : ℕ) {o : Outcome} → o ≡ spelled (house f) → IsAccepted (house f) f → 112 ≤ length bs
+pub spelt : (f : Four) (bs bs′ : List ℕ) (n : ℕ) {o : WriteOutcome} → o ≡ spelled (house f) → IsAccepted (house f) f → 112 ≤ length bs
     → n ≡ o .length
     → bs′ ≡ o .bytes ++ drop (length (o .bytes)) bs → Spelled f bs bs′ n
 spelt f bs bs′ n {o} e a h l b =
     let t = house f in
-    let size : n ≡ length t = l ∙ ap (λ (x : Outcome). x .length) e in
-    let buffer : bs′ ≡ t ++ drop (length t) bs = b ∙ ap (λ (x : Outcome). x .bytes ++ drop (length (x .bytes)) bs) e in
+    let size : n ≡ length t = l ∙ ap (λ (x : WriteOutcome). x .length) e in
+    let buffer : bs′ ≡ t ++ drop (length t) bs = b ∙ ap (λ (x : WriteOutcome). x .bytes ++ drop (length (x .bytes)) bs) e in
     let same = ap length buffer in
     record {
       size = size;
@@ -91,7 +91,7 @@ spelled-bytes {f} {bs} {bs′} {n} s =
 -- ---- `writer::write`
 
 module _ (c : Chord) where
-  numbered : (room : ℕ) {o : Outcome} → Asked room (fourOf c) o → Numbered room (some (fourOf c)) (o .number)
+  numbered : (room : ℕ) {o : WriteOutcome} → Asked room (fourOf c) o → Numbered room (some (fourOf c)) (o .number)
   numbered room (short h) =
       record {
         six = yes refl h;
@@ -100,14 +100,14 @@ module _ (c : Chord) where
       }
   numbered room (enough h) = answered-numbers (fourOf c) (decided c) room h
 
-  written : (bs bs′ : List ℕ) (n : ℕ) {o : Outcome} → Asked (length bs) (fourOf c) o → o .number ≡ 0 → n ≡ o .length
+  written : (bs bs′ : List ℕ) (n : ℕ) {o : WriteOutcome} → Asked (length bs) (fourOf c) o → o .number ≡ 0 → n ≡ o .length
       → bs′ ≡ o .bytes ++ drop (length (o .bytes)) bs → Spelled (fourOf c) bs bs′ n
   written bs bs′ n (short h) z l b = absurd (omega (arith, z))
   written bs bs′ n (enough h) z l b =
       let x = spelled-at (fourOf c) (decided c) (way (fourOf c)) z in
       spelt (fourOf c) bs bs′ n (x .0) (x .1) h l b
 
-  unwritten : (room : ℕ) {o : Outcome} → Asked room (fourOf c) o → (o .number ≡ 0 → ⊥) → (o .bytes ≡ []) × (o .length ≡ 0)
+  unwritten : (room : ℕ) {o : WriteOutcome} → Asked room (fourOf c) o → (o .number ≡ 0 → ⊥) → (o .bytes ≡ []) × (o .length ≡ 0)
   unwritten room (short h) n = (refl, refl)
   unwritten room (enough h) n = nothing (fourOf c) (way (fourOf c)) n
 
@@ -148,7 +148,7 @@ module _ (cs : List ℕ) where
   pub decided-in : (realizable (valuesIn cs) ≡ true) ↔ HasText (valuesIn cs)
   decided-in = some-text (valuesIn cs) narrow-in
 
-  c-numbered : (room : ℕ) {o : Outcome} → C-answers.Asked room cs o → Numbered room (fourIn cs) (o .number)
+  c-numbered : (room : ℕ) {o : WriteOutcome} → C-answers.Asked room cs o → Numbered room (fourIn cs) (o .number)
   c-numbered room (C-answers.short h) =
       record {
         six = yes refl h;
@@ -165,7 +165,7 @@ module _ (cs : List ℕ) where
       subst (λ (x : Option Four). Numbered room x (answerTo (valuesIn cs) .number)) (sym q)
       (answered-numbers (valuesIn cs) decided-in room h)
 
-  c-written : (bs bs′ : List ℕ) (n : ℕ) {o : Outcome} → C-answers.Asked (length bs) cs o → o .number ≡ 0 → n ≡ o .length
+  c-written : (bs bs′ : List ℕ) (n : ℕ) {o : WriteOutcome} → C-answers.Asked (length bs) cs o → o .number ≡ 0 → n ≡ o .length
       → bs′ ≡ o .bytes ++ drop (length (o .bytes)) bs → (fourIn cs ≡ some (valuesIn cs)) × Spelled (valuesIn cs) bs bs′ n
   c-written bs bs′ n (C-answers.short h) z l b = absurd (omega (arith, z))
   c-written bs bs′ n (C-answers.outside h q) z l b = absurd (omega (arith, z))
@@ -173,7 +173,7 @@ module _ (cs : List ℕ) where
       let x = spelled-at (valuesIn cs) decided-in (way (valuesIn cs)) z in
       (q, spelt (valuesIn cs) bs bs′ n (x .0) (x .1) h l b)
 
-  c-unwritten : (room : ℕ) {o : Outcome} → C-answers.Asked room cs o → (o .number ≡ 0 → ⊥) → (o .bytes ≡ []) × (o .length ≡ 0)
+  c-unwritten : (room : ℕ) {o : WriteOutcome} → C-answers.Asked room cs o → (o .number ≡ 0 → ⊥) → (o .bytes ≡ []) × (o .length ≡ 0)
   c-unwritten room (C-answers.short h) n = (refl, refl)
   c-unwritten room (C-answers.outside h q) n = (refl, refl)
   c-unwritten room (C-answers.within h q) n = nothing (valuesIn cs) (way (valuesIn cs)) n

@@ -9,7 +9,7 @@ use Rattle.chord.specs.declared.note.OptionalNote.the-variants.{None, Some}
 use Rattle.chord.specs.declared.note.OptionalNote.{OptionalNote}
 use Rattle.lexer.specs.Text.{ascii}
 use Rattle.pieces.specs.Spelling.{house}
-use Rattle.reader.specs.Reader.{Outcome, answerTo}
+use Rattle.reader.specs.Reader.{ReadOutcome, answerTo}
 
 -- a card, the answer's number, the root's number (letter times three, and 1 for a sharp, 2 for a flat; 21 for none), the members of N or the
 -- errors, and the house spelling where the paper has it
@@ -39,7 +39,7 @@ membersFrom (suc n) i s = cond (s i) (i ∷ membersFrom n (suc i) s) (membersFro
 abbrev spelledAs : List ℕ → List (List ℕ) → List (List ℕ)
 spelledAs t said = map (λ (s : List ℕ). t) said
 
-abbrev specimenOf : Specimen → Outcome → Specimen
+abbrev specimenOf : Specimen → ReadOutcome → Specimen
 specimenOf s o =
     record {
       card = s .card;

@@ -6,10 +6,10 @@ use native.Mathlib.Omega.{arith}
 use borrow.Author.Tests.{lt-ltb, le-ltb}
 use Rattle.chord.specs.declared.note.NoteLiteral.the-variants.{C, D, E, F, G, A, B}
 use Rattle.chord.specs.declared.note.NoteLiteral.{NoteLiteral}
-use Rattle.token.specs.Token.{numberOf, typeOf}
+use Rattle.token.specs.Token.{typeNumber, typeOf}
 use Rattle.token.specs.declared.TokenType.the-variants.{Note, Extension}
 
-pub note-back : (l : NoteLiteral) → typeOf (numberOf (Note l)) ≡ Note l
+pub note-back : (l : NoteLiteral) → typeOf (typeNumber (Note l)) ≡ Note l
 unfolding typeOf
 note-back C = refl
 note-back D = refl
@@ -19,7 +19,7 @@ note-back G = refl
 note-back A = refl
 note-back B = refl
 
-pub extension-back : (n : ℕ) → n < 32 → typeOf (numberOf (Extension n)) ≡ Extension n
+pub extension-back : (n : ℕ) → n < 32 → typeOf (typeNumber (Extension n)) ≡ Extension n
 unfolding typeOf
 extension-back n h =
     let e : 32 + n - 32 ≡ n = omega arith in

@@ -19,30 +19,30 @@ abbrev pub token : ℕ → ℕ → ℕ → Token
 token k p l = record { kind = k; pos = p; len = l }
 
 -- The number of a type: its place in the Rust's order; a note has 64 and its letter, an extension 32 and its number.
-abbrev pub numberOf : TokenType → ℕ
-numberOf (Note l) = 64 + letterNumber l
-numberOf Sharp = 1
-numberOf Flat = 2
-numberOf Aug = 3
-numberOf Dim = 4
-numberOf Dim7 = 5
-numberOf HalfDim = 6
-numberOf (Extension n) = 32 + n
-numberOf Add = 8
-numberOf Omit = 9
-numberOf Alt = 10
-numberOf Sus = 11
-numberOf Minor = 12
-numberOf Hyphen = 13
-numberOf Maj = 14
-numberOf Maj7 = 15
-numberOf Slash = 16
-numberOf LParent = 17
-numberOf RParent = 18
-numberOf Comma = 19
-numberOf Bass = 20
-numberOf Illegal = 21
-numberOf Eof = 22
+abbrev pub typeNumber : TokenType → ℕ
+typeNumber (Note l) = 64 + letterNumber l
+typeNumber Sharp = 1
+typeNumber Flat = 2
+typeNumber Aug = 3
+typeNumber Dim = 4
+typeNumber Dim7 = 5
+typeNumber HalfDim = 6
+typeNumber (Extension n) = 32 + n
+typeNumber Add = 8
+typeNumber Omit = 9
+typeNumber Alt = 10
+typeNumber Sus = 11
+typeNumber Minor = 12
+typeNumber Hyphen = 13
+typeNumber Maj = 14
+typeNumber Maj7 = 15
+typeNumber Slash = 16
+typeNumber LParent = 17
+typeNumber RParent = 18
+typeNumber Comma = 19
+typeNumber Bass = 20
+typeNumber Illegal = 21
+typeNumber Eof = 22
 
 -- The type of a number; a number that no type has gives Illegal.
 abbrev pub plainTypes : List TokenType

@@ -13,7 +13,7 @@ use Rattle.chord.specs.Interval.{Set, semitones}
 use Rattle.expression.specs.Expression.{expOf}
 use Rattle.expression.specs.declared.expression.Exp.{Exp}
 use Rattle.expression.specs.declared.parser_error.ParserError.the-variants.{ThreeConsecutiveSemitones}
-use Rattle.validator.specs.Validator.{firstFrom, allFrom, orElse, wrongOf, firstWrong, priorityOf, countOf, faultOf, seeing, extensionFault, lastBelow, neighboursAt, only, present, presentBelow, semitoneErrors}
+use Rattle.validator.specs.Validator.{firstFrom, allFrom, orElse, wrongOf, firstWrong, priorityOf, timesOf, faultOf, seeing, extensionFault, lastBelow, neighboursAt, only, present, presentBelow, semitoneErrors}
 use Rattle.validator.specs.State.{neighboursIn}
 
 -- the expressions from the i-th on
@@ -33,9 +33,9 @@ module _ (xs : List ℕ) (i : ℕ) (h : i < length xs) where
   unfolding firstWrong
   wrong-step = ap firstWrong (exps-cons xs i h)
 
-  pub count-step : (p : ℕ) → countOf (expsFrom xs i) p ≡ cond (eqb (priorityOf (expOf (getD xs i 0))) p) 1 0 + countOf (expsFrom xs (i + 1)) p
-  unfolding countOf
-  count-step p = ap (λ (l : List Exp). countOf l p) (exps-cons xs i h)
+  pub count-step : (p : ℕ) → timesOf (expsFrom xs i) p ≡ cond (eqb (priorityOf (expOf (getD xs i 0))) p) 1 0 + timesOf (expsFrom xs (i + 1)) p
+  unfolding timesOf
+  count-step p = ap (λ (l : List Exp). timesOf l p) (exps-cons xs i h)
 
   pub fault-step : (seen : Set) → extensionFault seen (expsFrom xs i) ≡ orElse (faultOf seen (expOf (getD xs i 0))) (extensionFault (seeing seen (expOf (getD xs i 0))) (expsFrom xs (i + 1)))
   unfolding extensionFault
@@ -45,9 +45,9 @@ pub wrong-end : (xs : List ℕ) (i : ℕ) → length xs ≤ i → firstWrong (ex
 unfolding firstWrong
 wrong-end xs i h = ap firstWrong (exps-end xs i h)
 
-pub count-end : (xs : List ℕ) (i : ℕ) → length xs ≤ i → (p : ℕ) → countOf (expsFrom xs i) p ≡ 0
-unfolding countOf
-count-end xs i h p = ap (λ (l : List Exp). countOf l p) (exps-end xs i h)
+pub count-end : (xs : List ℕ) (i : ℕ) → length xs ≤ i → (p : ℕ) → timesOf (expsFrom xs i) p ≡ 0
+unfolding timesOf
+count-end xs i h p = ap (λ (l : List Exp). timesOf l p) (exps-end xs i h)
 
 pub fault-end : (xs : List ℕ) (i : ℕ) → length xs ≤ i → (seen : Set) → extensionFault seen (expsFrom xs i) ≡ []
 unfolding extensionFault

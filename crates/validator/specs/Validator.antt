@@ -84,16 +84,16 @@ priorityOf (Omit x p) = 15
 priorityOf (SlashBass n) = 14
 
 -- how many expressions have the priority p
-unfoldable pub countOf : List Exp → ℕ → ℕ
-countOf [] p = 0
-countOf (e ∷ l) p = cond (eqb (priorityOf e) p) 1 0 + countOf l p
+unfoldable pub timesOf : List Exp → ℕ → ℕ
+timesOf [] p = 0
+timesOf (e ∷ l) p = cond (eqb (priorityOf e) p) 1 0 + timesOf l p
 
 abbrev pub repeatedAt : (ℕ → ℕ) → ℕ → List ℕ
 repeatedAt counts p = only (ltb 1 (counts p)) (DuplicateModifier p)
 
 -- "Where several kinds of expression repeat, .. the least `priority` is reported"
 abbrev pub repeated : List Exp → List ℕ
-repeated l = firstFrom (repeatedAt (countOf l)) 15 0
+repeated l = firstFrom (repeatedAt (timesOf l)) 15 0
 
 abbrev pub expressionErrors : List Exp → List ℕ
 expressionErrors l = orElse (firstWrong l) (repeated l)

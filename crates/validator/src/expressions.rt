@@ -7,7 +7,7 @@ ghost use lib.Dec.{eqb};
 ghost use lib.ListN.{length};
 ghost use Rattle.expression.specs.Expression.{expOf};
 ghost use Rattle.validator.specs.State.{errorOf, countsOf, Wrote};
-ghost use Rattle.validator.specs.Validator.{among, addTargets, omitTargets, wrongOf, firstWrong, priorityOf, countOf, repeatedAt, repeated, expressionErrors};
+ghost use Rattle.validator.specs.Validator.{among, addTargets, omitTargets, wrongOf, firstWrong, priorityOf, timesOf, repeatedAt, repeated, expressionErrors};
 use crate::fault::Fault;
 use crate::fault::fault_if;
 use crate::fault::push;
@@ -136,7 +136,7 @@ impl Counts {
 
 fn count(exps: &[u32]) -> Counts
     requires { ⌜ length (now exps) ≤ 257 ⌝ }
-    ensures { λ r. ⌜ ((p : ℕ) → p < 15 → countsOf r p ≡ countOf (map expOf (now (exps .entry))) p) ⌝ }
+    ensures { λ r. ⌜ ((p : ℕ) → p < 15 → countsOf r p ≡ timesOf (map expOf (now (exps .entry))) p) ⌝ }
 {
     let mut counts = Counts::new();
     let mut i = 0;

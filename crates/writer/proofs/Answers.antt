@@ -20,8 +20,8 @@ use Rattle.house.specs.declared.kind.Kind.{Kind}
 use Rattle.pieces.proofs.Realized.{some-text}
 use Rattle.pieces.specs.Spelling.{house, houseBy, spell}
 use Rattle.writer.proofs.Puts.{put-whole}
-use Rattle.writer.specs.State.{Gave, Put}
-use Rattle.writer.specs.Writer.{HasText, Outcome, answerTo, lengthOf, numberOf, refused, spelled, writeOf}
+use Rattle.writer.specs.State.{WriteGave, Put}
+use Rattle.writer.specs.Writer.{HasText, WriteOutcome, answerTo, lengthOf, numberOf, refused, spelled, writeOf}
 use Rattle.writer.specs.declared.Answer.the-variants.{Spelled, ShortBuffer, NoText}
 use Rattle.writer.specs.declared.Answer.{Answer}
 
@@ -72,7 +72,7 @@ module _ (f : Four) where
 
   -- ---- and back
 
-  pub data Way : Outcome → Type 0 where
+  pub data Way : WriteOutcome → Type 0 where
     has : realizable f ≡ true → Way (spelled (house f))
     lacks : realizable f ≡ false → Way (refused 7)
 
@@ -83,7 +83,7 @@ module _ (f : Four) where
       by true e = has e
       by false e = lacks e
 
-pub data Asked (room : ℕ) (f : Four) : Outcome → Type 0 where
+pub data Asked (room : ℕ) (f : Four) : WriteOutcome → Type 0 where
   short : room < 112 → Asked room f (refused 6)
   enough : 112 ≤ room → Asked room f (answerTo f)
 
@@ -98,19 +98,19 @@ asked-first room f = by (ltb room 112) refl
 -- ---- what the code gave
 
 -- a refusal leaves the buffer as it was
-gave-none : {o : Outcome} {k : ℕ} (r : Answer) (bs : List ℕ) → o ≡ refused k → numberOf r ≡ k → lengthOf r ≡ 0 → Gave o r bs bs
-gave-none r bs e n l = subst (λ (o : Outcome). Gave o r bs bs) (sym e) (record { number = n; size = l; buffer = refl })
+gave-none : {o : WriteOutcome} {k : ℕ} (r : Answer) (bs : List ℕ) → o ≡ refused k → numberOf r ≡ k → lengthOf r ≡ 0 → WriteGave o r bs bs
+gave-none r bs e n l = subst (λ (o : WriteOutcome). WriteGave o r bs bs) (sym e) (record { number = n; size = l; buffer = refl })
 
 module _ (f : Four) (bs : List ℕ) where
-  pub gave-short : length bs < 112 → Gave (writeOf (length bs) f) ShortBuffer bs bs
+  pub gave-short : length bs < 112 → WriteGave (writeOf (length bs) f) ShortBuffer bs bs
   gave-short h = gave-none ShortBuffer bs (short-buffer (length bs) f h) refl refl
 
   module _ (h : 112 ≤ length bs) where
-    pub gave-no-text : realizable f ≡ false → Gave (writeOf (length bs) f) NoText bs bs
+    pub gave-no-text : realizable f ≡ false → WriteGave (writeOf (length bs) f) NoText bs bs
     gave-no-text e = gave-none NoText bs (long-buffer (length bs) f h ∙ answered f false e) refl refl
 
-    pub gave-spelled : {r : ℕ} {bs′ : List ℕ} → realizable f ≡ true → Put 0 r (house f) bs bs′ → Gave (writeOf (length bs) f) (Spelled r) bs bs′
+    pub gave-spelled : {r : ℕ} {bs′ : List ℕ} → realizable f ≡ true → Put 0 r (house f) bs bs′ → WriteGave (writeOf (length bs) f) (Spelled r) bs bs′
     gave-spelled {r} {bs′} e w =
         let k : r ≡ length (house f) = omega (arith, w .count) in
-        subst (λ (o : Outcome). Gave o (Spelled r) bs bs′) (sym (long-buffer (length bs) f h ∙ answered f true e))
+        subst (λ (o : WriteOutcome). WriteGave o (Spelled r) bs bs′) (sym (long-buffer (length bs) f h ∙ answered f true e))
         (record { number = refl; size = k; buffer = put-whole w })

@@ -14,7 +14,7 @@ use Rattle.chord.specs.declared.note.Note.{Note}
 use Rattle.chord.specs.declared.note.OptionalNote.the-variants.{None}
 use Rattle.chord.specs.declared.note.OptionalNote.{OptionalNote}
 use Rattle.expression.specs.declared.expression.Exp.the-variants.{Dim7, SlashBass}
-use Rattle.house.specs.House.{Part, part, condition, conditionAt, isSome, noteIn, parts}
+use Rattle.house.specs.House.{Part, part, condition, conditionAt, isSome, noteOrC, parts}
 use Rattle.house.specs.declared.kind.Kind.the-variants.{Plain}
 use Rattle.house.specs.declared.kind.Kind.{Kind}
 use Rattle.lexer.specs.Text.{ascii}
@@ -183,7 +183,7 @@ module _ (n : Set) (k : Kind) where
 pub spell-parts : (root : Note) (bass : OptionalNote) (n : Set) (k : Kind) → spell root bass n k ≡ noteText root ++ (written23 n k ++ bassText bass)
 spell-parts root bass n k =
     ap (λ (l : List ℕ). noteText root ++ l)
-    (written-two (take 23 (partsOf n k)) (part (isSome bass) (SlashBass (noteIn bass)) ∷ []) texts23 ((ascii "/" ++ noteText (noteIn bass)) ∷ []) refl
+    (written-two (take 23 (partsOf n k)) (part (isSome bass) (SlashBass (noteOrC bass)) ∷ []) texts23 ((ascii "/" ++ noteText (noteOrC bass)) ∷ []) refl
     ∙ ap (λ (l : List ℕ). written23 n k ++ l) (append-nil (bassText bass)))
 
 pub spell-room : (root : Note) (bass : OptionalNote) (n : Set) (k : Kind) → length (noteText root) + length (written23 n k) + length (bassText bass) ≤ 112

@@ -9,21 +9,21 @@ use Rattle.chord.specs.Interval.{Set}
 use Rattle.chord.specs.declared.Chord.{Chord}
 use Rattle.chord.specs.declared.note.OptionalNote.the-variants.{None}
 use Rattle.chord.specs.declared.note.OptionalNote.{OptionalNote}
-use Rattle.house.specs.House.{conditionAt, isSome, noteIn, parts}
+use Rattle.house.specs.House.{conditionAt, isSome, noteOrC, parts}
 use Rattle.house.specs.declared.kind.Kind.{Kind}
 use Rattle.lexer.specs.Text.{ascii}
 use Rattle.pieces.specs.Spelling.{noteText, texts, written}
-use Rattle.writer.specs.Writer.{Outcome, lengthOf, numberOf, writeOf}
+use Rattle.writer.specs.Writer.{WriteOutcome, lengthOf, numberOf, writeOf}
 use Rattle.writer.specs.declared.Answer.{Answer}
 
-pub record Gave (o : Outcome) (r : Answer) (bs bs′ : List ℕ) : Type 0 where
+pub record WriteGave (o : WriteOutcome) (r : Answer) (bs bs′ : List ℕ) : Type 0 where
   pub number : numberOf r ≡ o .number
   pub size : lengthOf r ≡ o .length
   pub buffer : bs′ ≡ o .bytes ++ drop (length (o .bytes)) bs
 
 -- what a caller of `write` knows: the record was written into the lent buffer bs, which is bs′ now, and the answer is r
 abbrev pub Written : Chord → (bs bs′ : List ℕ) → Answer → Type 0
-Written c bs bs′ r = Gave (writeOf (length bs) (fourOf c)) r bs bs′
+Written c bs bs′ r = WriteGave (writeOf (length bs) (fourOf c)) r bs bs′
 
 -- the first n bytes became the first r, with `more` behind them, and the rest of the buffer is untouched
 pub record Put (n r : ℕ) (more : List ℕ) (bs bs′ : List ℕ) : Type 0 where
@@ -52,4 +52,4 @@ abbrev pub written23 : Set → Kind → List ℕ
 written23 n k = written (take 23 (parts (λ i. 0) None n k)) texts23
 
 abbrev pub bassText : OptionalNote → List ℕ
-bassText b = cond (isSome b) (ascii "/" ++ noteText (noteIn b)) []
+bassText b = cond (isSome b) (ascii "/" ++ noteText (noteOrC b)) []

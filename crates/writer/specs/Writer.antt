@@ -23,26 +23,26 @@ lengthOf ShortBuffer = 0
 lengthOf NoText = 0
 
 -- what writing gives: the paper's number, the length, and what the lent buffer begins with after it
-pub record Outcome : Type 0 where
+pub record WriteOutcome : Type 0 where
   pub number : ℕ
   pub length : ℕ
   pub bytes : List ℕ
 
 -- "Numbers .. 6, 7 .. leave the lent memory untouched."
-abbrev pub refused : ℕ → Outcome
+abbrev pub refused : ℕ → WriteOutcome
 refused n = record { number = n; length = 0; bytes = [] }
 
 -- "A written spelling fills its own bytes only and its length is returned."
-abbrev pub spelled : List ℕ → Outcome
+abbrev pub spelled : List ℕ → WriteOutcome
 spelled t = record { number = 0; length = length t; bytes = t }
 
 -- the answer to a record, given a buffer that is long enough: "Has some accepted text exactly these four? No: 7." (`realizable` is that
 -- question as a test.)
-abbrev pub answerTo : Four → Outcome
+abbrev pub answerTo : Four → WriteOutcome
 answerTo f = cond (realizable f) (spelled (house f)) (refused 7)
 
 -- "Does the buffer hold at least 112 bytes? No: 6."
-unfoldable pub writeOf : ℕ → Four → Outcome
+unfoldable pub writeOf : ℕ → Four → WriteOutcome
 writeOf room f = cond (ltb room 112) (refused 6) (answerTo f)
 
 -- "Has some accepted text exactly these four?"

@@ -2,7 +2,7 @@
 -- Assumes nothing.
 use mathlib.Core.Path.{sym, ap}
 use borrow.Author.Needs.{needs}
-use Rattle.behind.specs.Next.{noteIn}
+use Rattle.behind.specs.Next.{noteFrom}
 use Rattle.behind.proofs.Next.note.Statement.{statement}
 use Rattle.behind.proofs.Next.note.Tie as tie
 
@@ -28,7 +28,7 @@ enum-told-6 : tie.Need-enum-told-6
 enum-told-6 c = search needs
 
 returns : tie.Need-returns
-returns c = sym (ap (λ s. noteIn s (c .before .before .before .args .modifier)) (c .before .self .given .1))
+returns c = sym (ap (λ s. noteFrom s (c .before .before .before .args .modifier)) (c .before .self .given .1))
 
 returns-2 : tie.Need-returns-2
 returns-2 c = search needs

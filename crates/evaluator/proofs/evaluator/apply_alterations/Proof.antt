@@ -3,7 +3,7 @@ use Prim.Native.Nat.{_+_, _-_, _≤_, suc}
 use Rattle.chord.specs.Chord.{members}
 use Rattle.evaluator.proofs.Walks.{from, from-none, walk-turn}
 use Rattle.evaluator.proofs.evaluator.apply_alterations.Statement.{statement}
-use Rattle.evaluator.specs.Evaluator.{alterBy, walk}
+use Rattle.evaluator.specs.Evaluator.{alterBy, foldLeft}
 use borrow.Author.Needs.{needs}
 use lib.ListN.{length}
 use mathlib.Core.Path.{_∙_, _≡_, ap, refl, sym}
@@ -12,7 +12,7 @@ use Rattle.evaluator.proofs.evaluator.apply_alterations.Tie as tie
 
 abbrev Inv-loop : tie.InvT-loop
 Inv-loop exps s₀ i₀ s i =
-    (i ≤ length exps) × (walk alterBy (members s) (from i exps) ≡ walk alterBy (members s₀) (from 0 exps))
+    (i ≤ length exps) × (foldLeft alterBy (members s) (from i exps) ≡ foldLeft alterBy (members s₀) (from 0 exps))
 
 abbrev μ-loop : tie.MeasureT-loop
 μ-loop exps s₀ i₀ s i = length exps - i
@@ -51,7 +51,7 @@ returns : tie.Need-returns Inv-loop μ-loop
 returns c =
     let xs = c .before .before .before .args .exps .now in
     let s = c .before .loop .s in
-    ap (λ l. walk alterBy (members s) l) (sym (from-none xs (c .before .loop .i) (c .loop-test .left))) ∙ c .before .loop .inv .1
+    ap (λ l. foldLeft alterBy (members s) l) (sym (from-none xs (c .before .loop .i) (c .loop-test .left))) ∙ c .before .loop .inv .1
 
 pub apply-alterations-spec : {M : Type 1} → statement M
 apply-alterations-spec =

@@ -7,7 +7,7 @@ use Rattle.validator.proofs.Walks.{expsFrom, count-step, count-end}
 use Rattle.validator.proofs.expressions.count.Statement.{statement}
 use Rattle.validator.proofs.expressions.count.Tie as tie
 use Rattle.validator.specs.State.{countsOf}
-use Rattle.validator.specs.Validator.{countOf, priorityOf}
+use Rattle.validator.specs.Validator.{timesOf, priorityOf}
 use borrow.Author.Needs.{needs}
 use lib.Dec.{eqb}
 use lib.ListN.{length, getD}
@@ -17,7 +17,7 @@ use mathlib.Core.Path.{_≡_, ap, _∙_}
 use native.Mathlib.Omega.{arith}
 
 abbrev Inv-loop : tie.InvT-loop
-Inv-loop exps counts₀ i₀ counts i = (i ≤ length exps) × ((p : ℕ) → p < 15 → countOf (map expOf exps) p ≡ countsOf counts p + countOf (expsFrom exps i) p) × ((p : ℕ) → p < 15 → countsOf counts p ≤ i)
+Inv-loop exps counts₀ i₀ counts i = (i ≤ length exps) × ((p : ℕ) → p < 15 → timesOf (map expOf exps) p ≡ countsOf counts p + timesOf (expsFrom exps i) p) × ((p : ℕ) → p < 15 → countsOf counts p ≤ i)
 
 abbrev μ-loop : tie.MeasureT-loop
 μ-loop exps counts₀ i₀ counts i = length exps - i
