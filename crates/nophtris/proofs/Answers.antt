@@ -10,7 +10,7 @@ use lib.Dec.{eqb, ltb}
 use lib.ListN.{drop-of-length-le, length}
 use borrow.Author.Tests.{lt-ltb, le-ltb, ltb-false, ltb-true}
 use Rattle.chord.specs.Chord.{Four}
-use Rattle.pieces.proofs.Length.{house-length}
+use Rattle.house_text.proofs.Length.{house-length}
 use Rattle.reader.specs.Reader as reader
 use Rattle.reader.specs.State as reader-state
 use Rattle.reader.specs.declared.Answer.{Answer as Read}

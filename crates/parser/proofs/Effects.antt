@@ -17,15 +17,15 @@ use Rattle.expression.specs.declared.expression.Exp.{Exp}
 use Rattle.step.proofs.Laws.{inside-small}
 use Rattle.step.specs.Bounds.{Small, gainsCount}
 use Rattle.step.specs.Step.{addStep, augStep, hyphenStep, insideOf, modifierStep, omitStep, slashStep, susStep}
-use Rattle.behind.specs.Next.{isSign}
+use Rattle.lookahead.specs.Next.{isSign}
 use Rattle.step.specs.declared.effect.Effect.{Effect}
 use Rattle.step.specs.declared.effect.Gains.the-variants.{None, One, Two}
 use Rattle.step.specs.declared.effect.Gains.{Gains}
 use Rattle.step.specs.declared.effect.Here.{Here}
 use Rattle.step.specs.declared.step.Bracket.the-variants.{Opens, Closes, Ends, Other}
 use Rattle.step.specs.declared.step.Bracket.{Bracket}
-use Rattle.behind.specs.declared.Ahead.{Ahead}
-use Rattle.behind.specs.declared.Next.{Next}
+use Rattle.lookahead.specs.declared.Ahead.{Ahead}
+use Rattle.lookahead.specs.declared.Next.{Next}
 use Rattle.token.specs.Token.{typeOf}
 use Rattle.token.specs.declared.TokenType.the-variants as type
 use Rattle.token.specs.declared.TokenType.{TokenType}

@@ -17,8 +17,8 @@ use Rattle.step.specs.declared.effect.Gains.{Gains}
 use Rattle.step.specs.declared.effect.Here.{Here}
 use Rattle.step.specs.declared.effect.OptionalError.the-variants as error
 use Rattle.step.specs.declared.effect.OptionalError.{OptionalError}
-use Rattle.behind.specs.declared.Ahead.{Ahead}
-use Rattle.behind.specs.declared.Next.{Next}
+use Rattle.lookahead.specs.declared.Ahead.{Ahead}
+use Rattle.lookahead.specs.declared.Next.{Next}
 use Rattle.token.specs.Token.{Token, typeOf}
 use Rattle.token.specs.declared.TokenType.{TokenType}
 use Rattle.parser.specs.All.{All}

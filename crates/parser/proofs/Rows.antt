@@ -6,8 +6,8 @@ use native.Mathlib.Nat.{not-suc-le-zero, le-of-suc-le-suc}
 use native.Mathlib.Omega.{arith}
 use lib.ListN.{length, take, drop, getD, List·getD-eq-default}
 use lib.Seq.{getD-drop, length-take-le}
-use Rattle.behind.specs.Next.{nextOf}
-use Rattle.behind.specs.declared.Next.the-variants.{Other}
+use Rattle.lookahead.specs.Next.{nextOf}
+use Rattle.lookahead.specs.declared.Next.the-variants.{Other}
 use Rattle.token.specs.Token.{Token, Ranged, Room, at, rows, token, typeOf}
 use Rattle.parser.specs.Parser.{aheadOf, nextAt}
 use Rattle.parser.specs.State.{Tokens, aheadIn, nextIn}

@@ -10,13 +10,13 @@ use lib.ListN.{length, drop, getD}
 use lib.Seq.{drop-drop}
 use Rattle.chord.specs.declared.note.OptionalNote.{OptionalNote}
 use Rattle.chord.specs.declared.note.RootModifier.{RootModifier}
-use Rattle.behind.specs.Next.{noteFrom, signIn}
+use Rattle.lookahead.specs.Next.{noteFrom, signIn}
 use Rattle.expression.specs.Expression.{expNumber}
 use Rattle.step.specs.Step.{bracketKind, insideOf}
 use Rattle.step.specs.declared.effect.Effect.{Effect}
 use Rattle.step.specs.declared.effect.Here.{Here}
-use Rattle.behind.specs.declared.Ahead.{Ahead}
-use Rattle.behind.specs.declared.Next.{Next}
+use Rattle.lookahead.specs.declared.Ahead.{Ahead}
+use Rattle.lookahead.specs.declared.Next.{Next}
 use Rattle.step.specs.declared.step.Bracket.the-variants.{Opens, Closes, Ends, Other}
 use Rattle.step.specs.declared.step.Bracket.{Bracket}
 use Rattle.token.specs.Token.{Token, rows, typeOf}

@@ -9,20 +9,20 @@ use lib.Signed.{mag}
 use Rattle.expression.specs.Expression.{expNumber, expOf}
 use Rattle.expression.specs.declared.expression.Exp.{Exp}
 use Rattle.step.specs.Bounds.{gainsCount, susBit}
-use Rattle.behind.specs.Next.{nextOf}
+use Rattle.lookahead.specs.Next.{nextOf}
 use Rattle.step.specs.Step.{bracketKind, insideOf}
 use Rattle.step.specs.declared.context.Context.the-variants as context
 use Rattle.step.specs.declared.effect.Effect.{Effect}
 use Rattle.step.specs.declared.effect.Here.{Here}
-use Rattle.behind.specs.declared.Ahead.{Ahead}
-use Rattle.behind.specs.declared.Next.{Next}
+use Rattle.lookahead.specs.declared.Ahead.{Ahead}
+use Rattle.lookahead.specs.declared.Next.{Next}
 use Rattle.step.specs.declared.step.Bracket.the-variants.{Other}
 use Rattle.step.specs.declared.step.Bracket.{Bracket}
 use Rattle.token.specs.Token.{Token, Ranged, rows, typeOf}
 use Rattle.token.specs.declared.TokenType.the-variants as type
 use Rattle.token.specs.declared.TokenType.{TokenType}
 use Rattle.parser.specs.Parser.{Parsing, applied, enter, lastSix, parseOf, rootOf, skipping, walk}
-use Rattle.parser.specs.declared.parser.Ast.{Ast}
+use Rattle.parser.specs.declared.parser.ParseResult.{ParseResult}
 use Rattle.parser.specs.declared.state.State.{State}
 
 -- the kind and the position of the token at i, as `at` has them
@@ -175,7 +175,7 @@ pub record Read (ks ps ls : List ℕ) (inside : Bool) (q : ℕ) (st r : State) (
   pub whole : inside ≡ false → length ks ≤ r .at
 
 -- the tokens were read: r and the lent lists hold what the definition says, and what lies behind it is untouched
-pub record Parsed (ts : List Token) (r : Ast) (es es′ xs xs′ : List ℕ) : Type 0 where
+pub record Parsed (ts : List Token) (r : ParseResult) (es es′ xs xs′ : List ℕ) : Type 0 where
   pub root : r .root ≡ rootOf ts
   pub errs : take (4 * r .errors) es′ ≡ parseOf ts .errs
   pub rest : drop (4 * r .errors) es′ ≡ drop (4 * r .errors) es

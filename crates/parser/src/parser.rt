@@ -13,7 +13,7 @@ use crate::state::State;
 use crate::state::ahead_of;
 use crate::state::here_at;
 use crate::state::next_at;
-use behind::Next;
+use lookahead::Next;
 use chord::note::OptionalNote;
 use expression::parser_error::ParserError;
 use step::context::Context;
@@ -26,7 +26,7 @@ use step::step::process_inside;
 use token::TokenType;
 
 // How many errors and expressions there are, and the root.
-pub struct Ast {
+pub struct ParseResult {
     pub root: OptionalNote,
     pub errors: usize,
     pub exps: usize,
@@ -171,7 +171,7 @@ fn begin(root: OptionalNote, next: Next, errs: &mut [u16]) -> State
 }
 
 // Reads the tokens that three arrays of one length hold, and writes what is found from the beginning of the two lists on.
-pub fn parse(kinds: &[u8], poss: &[u16], lens: &[u16], errs: &mut [u16], exps: &mut [u32]) -> Ast
+pub fn parse(kinds: &[u8], poss: &[u16], lens: &[u16], errs: &mut [u16], exps: &mut [u32]) -> ParseResult
     requires { ⌜ Tokens (now kinds) (now poss) (now lens) × Space (now errs) (now exps) ⌝ }
     ensures { λ r. ⌜ Parsed (rows (now (kinds .entry)) (now (poss .entry)) (now (lens .entry))) r (now (errs .entry)) (now (errs .exit)) (now (exps .entry)) (now (exps .exit)) ⌝ }
 {
@@ -179,7 +179,7 @@ pub fn parse(kinds: &[u8], poss: &[u16], lens: &[u16], errs: &mut [u16], exps: &
     let root = next_at(kinds, 0).note(second.sign());
     let st = begin(root, second, errs);
     let end = read_tokens(kinds, poss, lens, st, false, 0, errs, exps);
-    Ast {
+    ParseResult {
         root,
         errors: end.errors,
         exps: end.exps,

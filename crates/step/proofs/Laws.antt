@@ -10,13 +10,13 @@ use lib.IntN.{pos}
 use lib.{Dec.eqb, Dec.ltb, ListN.getD, Signed.ltZ}
 use Rattle.chord.specs.declared.note.OptionalNote.{OptionalNote, the-variants.Some, the-variants.None}
 use Rattle.chord.specs.declared.note.RootModifier.{RootModifier, the-variants.Natural, the-variants.Sharp, the-variants.Flat}
-use Rattle.behind.specs.declared.Ahead.{Ahead}
-use Rattle.behind.specs.declared.Next.{Next}
+use Rattle.lookahead.specs.declared.Ahead.{Ahead}
+use Rattle.lookahead.specs.declared.Next.{Next}
 use Rattle.token.specs.declared.TokenType.the-variants as type
 use Rattle.token.specs.declared.TokenType.{TokenType}
 use Rattle.step.proofs.Count.{near}
 use Rattle.step.specs.{Bounds.Small, Bounds.Sound, Bounds.SoundGains, Bounds.susBit, Context.memberOf, Context.onComma, Context.startGroup, Effect.taking, Effect.within, Interval.intervalOf, Interval.rowOf}
-use Rattle.behind.specs.Next.{isEnd, isMaj7, isNumber, isSign, noteFrom, numberIn, signIn}
+use Rattle.lookahead.specs.Next.{isEnd, isMaj7, isNumber, isSign, noteFrom, numberIn, signIn}
 use Rattle.step.specs.Step.{addInterval, addSigned, addTarget, insideOf, intervalAlone, isPower, thenEnd, modifierStep, noteStep, omitTarget, placed, sixNine, stepOf, susAllows}
 use Rattle.step.specs.declared.context.Context.the-variants as context
 use Rattle.step.specs.declared.context.GroupKind.the-variants as group

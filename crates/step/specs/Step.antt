@@ -16,14 +16,14 @@ use Rattle.token.specs.declared.TokenType.{TokenType}
 use Rattle.step.specs.Context.{isNone, memberOf, onComma, startGroup}
 use Rattle.step.specs.Effect.{counting, erring, failing, kept, pushing, pushing2, taking, within}
 use Rattle.step.specs.Interval.{intervalOf}
-use Rattle.behind.specs.Next.{isEnd, isMaj7, isNumber, isSign, noteFrom, numberIn, signIn}
+use Rattle.lookahead.specs.Next.{isEnd, isMaj7, isNumber, isSign, noteFrom, numberIn, signIn}
 use Rattle.step.specs.declared.context.Context.the-variants as context
 use Rattle.step.specs.declared.context.Context.{Context}
 use Rattle.step.specs.declared.context.GroupKind.the-variants as group
 use Rattle.step.specs.declared.effect.Effect.{Effect}
 use Rattle.step.specs.declared.effect.Here.{Here}
-use Rattle.behind.specs.declared.Ahead.{Ahead}
-use Rattle.behind.specs.declared.Next.{Next}
+use Rattle.lookahead.specs.declared.Ahead.{Ahead}
+use Rattle.lookahead.specs.declared.Next.{Next}
 use Rattle.step.specs.declared.step.Bracket.the-variants.{Opens, Closes, Ends, Other}
 use Rattle.step.specs.declared.step.Bracket.{Bracket}
 

@@ -74,7 +74,7 @@ pub(crate) fn push(h: Here, e: Exp, taken: usize) -> Effect
 }
 
 // An expression that ends sus.
-pub(crate) fn push_free(h: Here, e: Exp) -> Effect
+pub(crate) fn push_after_sus(h: Here, e: Exp) -> Effect
     ensures { λ r. ⌜ r ≡ within None (pushing h e) ⌝ }
 {
     Effect {
@@ -87,7 +87,7 @@ pub(crate) fn push_free(h: Here, e: Exp) -> Effect
 }
 
 // Two of them.
-pub(crate) fn push_free2(h: Here, e: Exp, f: Exp) -> Effect
+pub(crate) fn push_two_after_sus(h: Here, e: Exp, f: Exp) -> Effect
     ensures { λ r. ⌜ r ≡ within None (pushing2 h e f) ⌝ }
 {
     Effect {

@@ -15,11 +15,11 @@ use crate::effect::enter;
 use crate::effect::fail;
 use crate::effect::keep;
 use crate::effect::push;
-use crate::effect::push_free;
-use crate::effect::push_free2;
+use crate::effect::push_after_sus;
+use crate::effect::push_two_after_sus;
 use crate::interval::from_modifier_extension;
-use behind::Ahead;
-use behind::Next;
+use lookahead::Ahead;
+use lookahead::Next;
 use chord::note::Note;
 use chord::note::OptionalNote;
 use chord::note::RootModifier;
@@ -85,9 +85,9 @@ fn interval_in_sus(h: Here, interval: u8, pos: u16) -> Effect
     ensures { λ r. ⌜ r ≡ intervalInSus h interval pos ⌝ }
 {
     if allowed_sus_interval(interval) {
-        return push_free(h, Exp::Sus(interval));
+        return push_after_sus(h, Exp::Sus(interval));
     }
-    push_free2(h, Exp::Sus(5), Exp::Extension(interval, pos))
+    push_two_after_sus(h, Exp::Sus(5), Exp::Extension(interval, pos))
 }
 
 fn add_interval(h: Here, interval: u8, pos: u16) -> Effect
@@ -180,7 +180,7 @@ fn sus(h: Here, next: Next) -> Effect
     if next.is_sign() {
         return enter(h, Context::Sus);
     }
-    push_free(h, Exp::Sus(5))
+    push_after_sus(h, Exp::Sus(5))
 }
 
 fn omit_target(h: Here, next: Next) -> Effect

@@ -21,15 +21,15 @@ use Rattle.chord.specs.declared.note.OptionalNote.{OptionalNote}
 use Rattle.chord.specs.declared.note.RootModifier.the-variants.{Natural, Sharp, Flat}
 use Rattle.chord.specs.declared.note.RootModifier.{RootModifier}
 use Rattle.evaluator.specs.Display.{chosen, displayOf, order, shown}
-use Rattle.house.proofs.Bools.{and-left, and-right}
-use Rattle.house.specs.House.{displayBy, kindIn, susBy}
-use Rattle.house.proofs.Low.{Low}
-use Rattle.house.specs.declared.kind.Kind.the-variants.{Plain, Flat2, Second, Sharp4}
-use Rattle.house.specs.declared.kind.Kind.{Kind}
+use Rattle.house_parts.proofs.Bools.{and-left, and-right}
+use Rattle.house_parts.specs.House.{displayBy, kindIn, susBy}
+use Rattle.house_parts.proofs.Low.{Low}
+use Rattle.house_parts.specs.declared.kind.SusKind.the-variants.{Plain, Flat2, Second, Sharp4}
+use Rattle.house_parts.specs.declared.kind.SusKind.{SusKind}
 use Rattle.nophtris.proofs.Bytes.{chord-length, padded, set-at, set-length}
 use Rattle.nophtris.proofs.Answers.{holds}
 use Rattle.nophtris.specs.Boundary.{alterationByte, areBits, chordBytes, fourIn, inside, isAlteration, isNote, listBytes, modifierIn, noteBytes, noteIn, setBytes, valuesIn}
-use Rattle.pieces.proofs.Realized.{accepted-realizable}
+use Rattle.house_text.proofs.Realized.{accepted-realizable}
 use Rattle.reader.specs.Reader.{IsAccepted}
 
 -- ---- a note
@@ -153,14 +153,14 @@ chosen-few s g (i ∷ l) = by (s i) (chosen-few s g l)
     by true h = omega (arith, h)
     by false h = omega (arith, h)
 
-order-few : (k : Kind) → length (order (susBy k)) ≡ 23
+order-few : (k : SusKind) → length (order (susBy k)) ≡ 23
 unfolding order
 order-few Plain = refl
 order-few Flat2 = refl
 order-few Second = refl
 order-few Sharp4 = refl
 
-display-few : (k : Kind) (s : Set) → length (displayBy k s) ≤ 23
+display-few : (k : SusKind) (s : Set) → length (displayBy k s) ≤ 23
 unfolding displayOf
 display-few k s = omega (arith, chosen-few s (shown (susBy k)) (order (susBy k)), order-few k)
 
@@ -232,14 +232,14 @@ bytes-chosen s g (i ∷ l) t =
     by true h r = byte-then (g i) (chosen s g l) h r
     by false h r = r
 
-order-shows : (k : Kind) → T (shows (shown (susBy k)) (order (susBy k)))
+order-shows : (k : SusKind) → T (shows (shown (susBy k)) (order (susBy k)))
 unfolding order
 order-shows Plain = tt
 order-shows Flat2 = tt
 order-shows Second = tt
 order-shows Sharp4 = tt
 
-bytes-display : (k : Kind) (s : Set) → Bytes (displayBy k s)
+bytes-display : (k : SusKind) (s : Set) → Bytes (displayBy k s)
 unfolding displayOf
 bytes-display k s = bytes-chosen s (shown (susBy k)) (order (susBy k)) (order-shows k)
 

@@ -13,11 +13,11 @@ use borrow.Author.Tests.{eqb-false, ne-eqb}
 use Rattle.chord.specs.Chord.{Four, fourOf, noChord, recordOf}
 use Rattle.chord.specs.declared.note.Note.{Note}
 use Rattle.chord.specs.declared.note.OptionalNote.the-variants.{Some}
-use Rattle.house.proofs.Bools.{and-left, and-right}
+use Rattle.house_parts.proofs.Bools.{and-left, and-right}
 use Rattle.nophtris.specs.Boundary.{chordAfter, chordBytes, countAfter, fourIn}
 use Rattle.nophtris.specs.State as C
 use Rattle.parser.specs.Parser.{parseOf}
-use Rattle.pieces.proofs.Realized.{accepted-realizable}
+use Rattle.house_text.proofs.Realized.{accepted-realizable}
 use Rattle.reader.proofs.Answers.{Asked, Way, accept, asked-first, bytes, enough, long, long-list, parse, short, validation, way}
 use Rattle.reader.specs.Reader.{IsAccepted, ReadOutcome, answerTo, countOf, numberOf, readOf, tokensIn}
 use Rattle.reader.specs.State.{Read}

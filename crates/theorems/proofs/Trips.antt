@@ -11,8 +11,8 @@ use Rattle.chord.specs.Chord.{Four, fourOf, recordOf}
 use Rattle.chord.specs.declared.Chord.{Chord}
 use Rattle.nophtris.specs.Boundary.{chordBytes, fourIn, valuesIn}
 use Rattle.nophtris.specs.State as C
-use Rattle.pieces.proofs.Realized.{accepted-realizable, spelling-realizes}
-use Rattle.pieces.specs.Spelling.{house}
+use Rattle.house_text.proofs.Realized.{accepted-realizable, spelling-realizes}
+use Rattle.house_text.specs.Spelling.{house}
 use Rattle.reader.specs.Reader as reader
 use Rattle.reader.specs.Reader.{IsAccepted, answerTo}
 use Rattle.reader.specs.State.{Read}

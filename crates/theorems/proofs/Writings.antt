@@ -13,13 +13,13 @@ use lib.Seq.{take-append-seam}
 use borrow.Author.Tests.{le-ltb, ne-eqb}
 use Rattle.chord.specs.Chord.{Four, fourOf}
 use Rattle.chord.specs.declared.Chord.{Chord}
-use Rattle.house.specs.Question.{realizable}
+use Rattle.house_parts.specs.Question.{realizable}
 use Rattle.nophtris.proofs.Answers as C-answers
 use Rattle.nophtris.specs.Boundary.{fourIn, lengthAfter, valuesIn, writeIn}
 use Rattle.nophtris.specs.State as C
-use Rattle.pieces.proofs.Length.{house-length}
-use Rattle.pieces.proofs.Realized.{Narrow, accepted-realizable, some-text, spelling-realizes}
-use Rattle.pieces.specs.Spelling.{house}
+use Rattle.house_text.proofs.Length.{house-length}
+use Rattle.house_text.proofs.Realized.{Narrow, accepted-realizable, some-text, spelling-realizes}
+use Rattle.house_text.specs.Spelling.{house}
 use Rattle.reader.specs.Reader.{IsAccepted}
 use Rattle.theorems.proofs.Readings.{no, yes}
 use Rattle.theorems.specs.CWriting as C-writing

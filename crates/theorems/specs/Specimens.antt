@@ -8,7 +8,7 @@ use Rattle.chord.specs.Note.{noteNumber}
 use Rattle.chord.specs.declared.note.OptionalNote.the-variants.{None, Some}
 use Rattle.chord.specs.declared.note.OptionalNote.{OptionalNote}
 use Rattle.lexer.specs.Text.{ascii}
-use Rattle.pieces.specs.Spelling.{house}
+use Rattle.house_text.specs.Spelling.{house}
 use Rattle.reader.specs.Reader.{ReadOutcome, answerTo}
 
 -- a card, the answer's number, the root's number (letter times three, and 1 for a sharp, 2 for a flat; 21 for none), the members of N or the

@@ -9,7 +9,7 @@ use Prim.Native.Nat.{ℕ, _≤_, _<_}
 use lib.ListN.{drop, length}
 use Rattle.chord.specs.Chord.{Four, fourOf}
 use Rattle.chord.specs.declared.Chord.{Chord}
-use Rattle.pieces.specs.Spelling.{house}
+use Rattle.house_text.specs.Spelling.{house}
 use Rattle.reader.specs.Reader.{IsAccepted}
 use Rattle.writer.specs.State.{Written}
 use Rattle.writer.specs.Writer.{HasText, lengthOf, numberOf}

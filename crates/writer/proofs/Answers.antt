@@ -14,11 +14,11 @@ use Rattle.chord.specs.Chord.{Four, fourOf}
 use Rattle.chord.specs.declared.Chord.{Chord}
 use Rattle.chord.specs.declared.note.OptionalNote.the-variants.{None, Some}
 use Rattle.chord.specs.declared.note.OptionalNote.{OptionalNote}
-use Rattle.house.specs.House.{kindIn}
-use Rattle.house.specs.Question.{realizable}
-use Rattle.house.specs.declared.kind.Kind.{Kind}
-use Rattle.pieces.proofs.Realized.{some-text}
-use Rattle.pieces.specs.Spelling.{house, houseBy, spell}
+use Rattle.house_parts.specs.House.{kindIn}
+use Rattle.house_parts.specs.Question.{realizable}
+use Rattle.house_parts.specs.declared.kind.SusKind.{SusKind}
+use Rattle.house_text.proofs.Realized.{some-text}
+use Rattle.house_text.specs.Spelling.{house, houseBy, spell}
 use Rattle.writer.proofs.Puts.{put-whole}
 use Rattle.writer.specs.State.{WriteGave, Put}
 use Rattle.writer.specs.Writer.{HasText, WriteOutcome, answerTo, lengthOf, numberOf, refused, spelled, writeOf}
@@ -42,11 +42,11 @@ is-test c b h = by (realizable (fourOf c)) b (λ e. h .1 (decided c .0 e)) (λ e
     by false false f g = refl
 
 -- the house spelling by K
-abbrev pub spellBy : OptionalNote → Kind → Four → List ℕ
+abbrev pub spellBy : OptionalNote → SusKind → Four → List ℕ
 spellBy None k f = []
 spellBy (Some r) k f = spell r (f .bass) (f .normalized) k
 
-pub house-by : (r : OptionalNote) (k : Kind) (f : Four) → k ≡ kindIn (f .normalized) (f .display) → spellBy r k f ≡ houseBy r f
+pub house-by : (r : OptionalNote) (k : SusKind) (f : Four) → k ≡ kindIn (f .normalized) (f .display) → spellBy r k f ≡ houseBy r f
 house-by None k f e = refl
 house-by (Some r) k f e = ap (spell r (f .bass) (f .normalized)) e
 

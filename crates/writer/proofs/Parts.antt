@@ -14,12 +14,12 @@ use Rattle.chord.specs.declared.note.Note.{Note}
 use Rattle.chord.specs.declared.note.OptionalNote.the-variants.{None}
 use Rattle.chord.specs.declared.note.OptionalNote.{OptionalNote}
 use Rattle.expression.specs.declared.expression.Exp.the-variants.{Dim7, SlashBass}
-use Rattle.house.specs.House.{Part, part, condition, conditionAt, isSome, noteOrC, parts}
-use Rattle.house.specs.declared.kind.Kind.the-variants.{Plain}
-use Rattle.house.specs.declared.kind.Kind.{Kind}
+use Rattle.house_parts.specs.House.{Part, part, condition, conditionAt, isSome, noteOrC, parts}
+use Rattle.house_parts.specs.declared.kind.SusKind.the-variants.{Plain}
+use Rattle.house_parts.specs.declared.kind.SusKind.{SusKind}
 use Rattle.lexer.specs.Text.{ascii}
-use Rattle.pieces.proofs.Length.{length-spelled}
-use Rattle.pieces.specs.Spelling.{noteText, spell, written}
+use Rattle.house_text.proofs.Length.{length-spelled}
+use Rattle.house_text.specs.Spelling.{noteText, spell, written}
 use Rattle.writer.specs.State.{Tables, bassText, partText, textAt, texts23, written23}
 
 -- The tables.
@@ -114,14 +114,14 @@ written-next i ps ts h k =
 
 -- The parts of a set by K, but for the bass.
 
-abbrev pub partsOf : Set → Kind → List Part
+abbrev pub partsOf : Set → SusKind → List Part
 partsOf n k = parts (λ j. 0) None n k
 
 -- what the first i parts write
-unfoldable pub soFar : Set → Kind → ℕ → List ℕ
+unfoldable pub soFar : Set → SusKind → ℕ → List ℕ
 soFar n k i = written (take i (take 23 (partsOf n k))) (take i texts23)
 
-module _ (n : Set) (k : Kind) where
+module _ (n : Set) (k : SusKind) where
   pub so-far-none : soFar n k 0 ≡ []
   unfolding soFar
   so-far-none = refl
@@ -180,18 +180,18 @@ module _ (n : Set) (k : Kind) where
 
 -- The whole: the root, the parts and the bass.
 
-pub spell-parts : (root : Note) (bass : OptionalNote) (n : Set) (k : Kind) → spell root bass n k ≡ noteText root ++ (written23 n k ++ bassText bass)
+pub spell-parts : (root : Note) (bass : OptionalNote) (n : Set) (k : SusKind) → spell root bass n k ≡ noteText root ++ (written23 n k ++ bassText bass)
 spell-parts root bass n k =
     ap (λ (l : List ℕ). noteText root ++ l)
     (written-two (take 23 (partsOf n k)) (part (isSome bass) (SlashBass (noteOrC bass)) ∷ []) texts23 ((ascii "/" ++ noteText (noteOrC bass)) ∷ []) refl
     ∙ ap (λ (l : List ℕ). written23 n k ++ l) (append-nil (bassText bass)))
 
-pub spell-room : (root : Note) (bass : OptionalNote) (n : Set) (k : Kind) → length (noteText root) + length (written23 n k) + length (bassText bass) ≤ 112
+pub spell-room : (root : Note) (bass : OptionalNote) (n : Set) (k : SusKind) → length (noteText root) + length (written23 n k) + length (bassText bass) ≤ 112
 spell-room root bass n k =
     let e : length (spell root bass n k) ≡ length (noteText root ++ (written23 n k ++ bassText bass)) = ap length (spell-parts root bass n k) in
     omega (arith, e, length-spelled root bass n k, length-append (noteText root) (written23 n k ++ bassText bass), length-append (written23 n k) (bassText bass))
 
-pub parts-room : (root : Note) (n : Set) (k : Kind) → length (noteText root) + length (written23 n k) ≤ 112
+pub parts-room : (root : Note) (n : Set) (k : SusKind) → length (noteText root) + length (written23 n k) ≤ 112
 parts-room root n k = omega (arith, spell-room root None n k)
 
 pub note-room : (root : Note) → length (noteText root) ≤ 112

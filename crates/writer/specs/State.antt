@@ -9,10 +9,10 @@ use Rattle.chord.specs.Interval.{Set}
 use Rattle.chord.specs.declared.Chord.{Chord}
 use Rattle.chord.specs.declared.note.OptionalNote.the-variants.{None}
 use Rattle.chord.specs.declared.note.OptionalNote.{OptionalNote}
-use Rattle.house.specs.House.{conditionAt, isSome, noteOrC, parts}
-use Rattle.house.specs.declared.kind.Kind.{Kind}
+use Rattle.house_parts.specs.House.{conditionAt, isSome, noteOrC, parts}
+use Rattle.house_parts.specs.declared.kind.SusKind.{SusKind}
 use Rattle.lexer.specs.Text.{ascii}
-use Rattle.pieces.specs.Spelling.{noteText, texts, written}
+use Rattle.house_text.specs.Spelling.{noteText, texts, written}
 use Rattle.writer.specs.Writer.{WriteOutcome, lengthOf, numberOf, writeOf}
 use Rattle.writer.specs.declared.Answer.{Answer}
 
@@ -44,11 +44,11 @@ pub record Tables (ts : List (List ℕ)) (ns : List ℕ) : Type 0 where
   pub sizes : ns ≡ map length texts23
 
 -- what is written of the i-th part
-unfoldable pub partText : Set → Kind → ℕ → List ℕ
+unfoldable pub partText : Set → SusKind → ℕ → List ℕ
 partText n k i = cond (conditionAt i (parts (λ j. 0) None n k)) (textAt i) []
 
 -- what is written of the parts but for the bass, and of the bass
-abbrev pub written23 : Set → Kind → List ℕ
+abbrev pub written23 : Set → SusKind → List ℕ
 written23 n k = written (take 23 (parts (λ i. 0) None n k)) texts23
 
 abbrev pub bassText : OptionalNote → List ℕ

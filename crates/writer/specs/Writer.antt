@@ -5,8 +5,8 @@ use Prim.Native.Nat.{ℕ}
 use lib.Dec.{ltb}
 use lib.ListN.{length}
 use Rattle.chord.specs.Chord.{Four}
-use Rattle.house.specs.Question.{realizable}
-use Rattle.pieces.specs.Spelling.{house}
+use Rattle.house_parts.specs.Question.{realizable}
+use Rattle.house_text.specs.Spelling.{house}
 use Rattle.reader.specs.Reader.{IsAccepted}
 use Rattle.writer.specs.declared.Answer.the-variants.{Spelled, ShortBuffer, NoText}
 use Rattle.writer.specs.declared.Answer.{Answer}

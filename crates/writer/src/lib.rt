@@ -5,13 +5,13 @@ ghost use mathlib.Core.Path.{_≡_};
 ghost use Prim.Native.Nat.{_≤_};
 ghost use lib.ListN.{length};
 ghost use Rattle.chord.specs.Chord.{fourOf};
-ghost use Rattle.pieces.specs.Spelling.{house};
+ghost use Rattle.house_text.specs.Spelling.{house};
 ghost use Rattle.writer.specs.State.{Put, Written};
 ghost use Rattle.writer.specs.Writer.{HasText};
 use chord::Chord;
 use chord::note::OptionalNote;
-use house::kind::kind_in;
-use house::question::is_realizable;
+use house_parts::kind::kind_in;
+use house_parts::question::is_realizable;
 use spelling::put_spelling;
 
 mod spelling;

@@ -3,7 +3,7 @@ ghost use mathlib.Core.List.{[], _∷_};
 ghost use mathlib.Core.Path.{_≡_};
 ghost use Prim.Native.Nat.{_+_, _<_, _≤_};
 ghost use lib.ListN.{length, getD};
-ghost use Rattle.pieces.specs.Spelling.{letterText, noteText, spell};
+ghost use Rattle.house_text.specs.Spelling.{letterText, noteText, spell};
 ghost use Rattle.chord.specs.Chord.{members};
 ghost use Rattle.writer.specs.State.{Put, Tables, textAt, partText, written23, bassText};
 use chord::interval::IntervalSet;
@@ -11,8 +11,8 @@ use chord::note::Note;
 use chord::note::NoteLiteral;
 use chord::note::OptionalNote;
 use chord::note::RootModifier;
-use house::kind::Kind;
-use house::parts::is_named;
+use house_parts::kind::SusKind;
+use house_parts::parts::is_named;
 
 // The texts of the parts but for the bass, as rows of eight bytes, and their lengths.
 pub const TEXTS: [[u8; 8]; 23] = [
@@ -135,7 +135,7 @@ fn put_part(
     buffer: &mut [u8],
     n: usize,
     set: IntervalSet,
-    k: Kind,
+    k: SusKind,
     i: usize,
 ) -> usize
     requires { ⌜ Tables (now texts) (now sizes) × (i < 23) × (n + length (partText (members set) k i) ≤ length (now buffer)) ⌝ }
@@ -154,7 +154,7 @@ fn put_parts(
     buffer: &mut [u8],
     n: usize,
     set: IntervalSet,
-    k: Kind,
+    k: SusKind,
 ) -> usize
     requires { ⌜ Tables (now texts) (now sizes) × (n + length (written23 (members set) k) ≤ length (now buffer)) ⌝ }
     ensures { λ r. ⌜ Put n r (written23 (members set) k) (now (buffer .entry)) (now (buffer .exit)) ⌝ }
@@ -188,7 +188,7 @@ pub(crate) fn put_spelling(
     root: Note,
     bass: OptionalNote,
     set: IntervalSet,
-    k: Kind,
+    k: SusKind,
 ) -> usize
     requires { ⌜ 112 ≤ length (now buffer) ⌝ }
     ensures { λ r. ⌜ Put 0 r (spell root bass (members set) k) (now (buffer .entry)) (now (buffer .exit)) ⌝ }

@@ -3,7 +3,7 @@
 use mathlib.Core.Path.{sym, ap, _∙_}
 use borrow.Author.Needs.{needs}
 use Rattle.chord.specs.Chord.{fourOf}
-use Rattle.pieces.specs.Spelling.{houseBy}
+use Rattle.house_text.specs.Spelling.{houseBy}
 use Rattle.writer.proofs.Answers.{spellBy, house-by}
 use Rattle.writer.proofs.Puts.{put-none, put-as}
 use Rattle.writer.proofs.spell.Statement.{statement}

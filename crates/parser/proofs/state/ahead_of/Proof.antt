@@ -2,7 +2,7 @@
 use mathlib.Core.Path.{_∙_, ap}
 use native.Mathlib.Omega.{arith}
 use borrow.Author.Needs.{needs}
-use Rattle.behind.specs.declared.Ahead.{Ahead}
+use Rattle.lookahead.specs.declared.Ahead.{Ahead}
 use Rattle.parser.proofs.state.ahead_of.Statement.{statement}
 use Rattle.parser.proofs.state.ahead_of.Tie as tie
 

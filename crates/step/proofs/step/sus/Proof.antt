@@ -22,11 +22,11 @@ enter-requires-2 c κs = search needs
 returns-2 : tie.Need-returns-2
 returns-2 c = rw (c .enter2 .ensures, ← c .before .before .before .before .is-extension .ensures, c .before .before .before .if1 .left, ← c .before .before .is-sign .ensures, c .before .if2 .taken)
 
-push-free-requires : tie.Need-push-free-requires
-push-free-requires c κs = search needs
+push-after-sus-requires : tie.Need-push-after-sus-requires
+push-after-sus-requires c κs = search needs
 
 returns-3 : tie.Need-returns-3
-returns-3 c = rw (c .push-free .ensures, ← c .before .before .before .before .is-extension .ensures, c .before .before .before .if1 .left, ← c .before .before .is-sign .ensures, c .before .if2 .left)
+returns-3 c = rw (c .push-after-sus .ensures, ← c .before .before .before .before .is-extension .ensures, c .before .before .before .if1 .left, ← c .before .before .is-sign .ensures, c .before .if2 .left)
 
 pub sus-spec : {M : Type 1} → statement M
 sus-spec =
@@ -38,5 +38,5 @@ sus-spec =
     is-sign-requires
     enter-requires-2
     returns-2
-    push-free-requires
+    push-after-sus-requires
     returns-3)

@@ -2,7 +2,7 @@
 -- Assumes nothing.
 use borrow.Author.Needs.{needs}
 use mathlib.Core.Path.{sym, ap}
-use Rattle.pieces.specs.Spelling.{letterText}
+use Rattle.house_text.specs.Spelling.{letterText}
 use Rattle.writer.proofs.spelling.letter.Statement.{statement}
 use Rattle.writer.proofs.spelling.letter.Tie as tie
 

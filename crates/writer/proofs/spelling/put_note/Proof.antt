@@ -5,7 +5,7 @@ use mathlib.Core.Path.{sym, ap, _∙_}
 use native.Mathlib.Omega.{arith}
 use lib.ListN.{length, length-append}
 use borrow.Author.Needs.{needs}
-use Rattle.pieces.specs.Spelling.{letterText, signText}
+use Rattle.house_text.specs.Spelling.{letterText, signText}
 use Rattle.writer.proofs.Puts.{put-then, put-as}
 use Rattle.writer.proofs.spelling.put_note.Statement.{statement}
 use Rattle.writer.proofs.spelling.put_note.Tie as tie

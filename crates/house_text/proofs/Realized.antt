@@ -1,0 +1,275 @@
+-- Which fours some accepted text has, and that the house spelling of these is accepted and has them. The text half is `text-lemma`, the set half
+-- is house `round-at` and `struct`; what validation finds in the set is carried over.
+-- Assumes nothing.
+use mathlib.Core.Bool.{Bool, true, false, not, _&&_}
+use mathlib.Core.List.{List, [], _∷_, _++_}
+use mathlib.Core.Logic.{_↔_}
+use mathlib.Core.Path.{_≡_, refl, sym, ap, subst, fun-ext, _∙_}
+use Prim.Native.Nat.{ℕ, _≤_}
+use native.Mathlib.Omega.{arith}
+use lib.Dec.{T, ltb}
+use lib.ListN.{length}
+use borrow.Author.Tests.{ltb-false, ltb-true}
+use Rattle.chord.specs.Chord.{Four, within}
+use Rattle.chord.specs.Interval.{Set, empty}
+use Rattle.chord.specs.declared.note.Note.{Note}
+use Rattle.chord.specs.declared.note.OptionalNote.the-variants.{None, Some}
+use Rattle.chord.specs.declared.note.OptionalNote.{OptionalNote}
+use Rattle.evaluator.specs.Display.{displayOf, firstSus}
+use Rattle.evaluator.specs.Evaluator.{evalSet, slashBass}
+use Rattle.expression.specs.ParserError.{numbersOf}
+use Rattle.expression.specs.declared.expression.Exp.{Exp}
+use Rattle.expression.specs.declared.parser_error.ParserError.the-variants.{InconsistentExtension}
+use Rattle.expression.specs.declared.parser_error.ParserError.{ParserError}
+use Rattle.house_parts.proofs.Accepted.{spelled-valid}
+use Rattle.house_parts.proofs.Allowed.{allowed-of, nil}
+use Rattle.house_parts.proofs.Back.{bass-back, kind-back}
+use Rattle.house_parts.proofs.Beyond.{beyond, spelled-allowed}
+use Rattle.house_parts.proofs.Bools.{and-left, and-right, both-pass}
+use Rattle.house_parts.proofs.Displayed.{display-by, kind-displayed}
+use Rattle.house_parts.proofs.Invariants.{struct}
+use Rattle.house_parts.proofs.Low.{Low, low-of, within-of}
+use Rattle.house_parts.proofs.Round.{round-at}
+use Rattle.house_parts.proofs.Struct.{Struct, apart, together}
+use Rattle.house_parts.proofs.Tests.{same-lists, same-self}
+use Rattle.house_parts.specs.House.{displayBy, isSome, kindIn, kindOf, spellExps}
+use Rattle.house_parts.specs.declared.kind.SusKind.{SusKind}
+use Rattle.house_parts.specs.Question.{all, clauses, realizable, realizableBy, sameList}
+use Rattle.parser.proofs.Laws.{expressions-sound, root-note}
+use Rattle.parser.specs.All.{All}
+use Rattle.parser.specs.Parser.{parseOf, rootOf}
+use Rattle.house_text.proofs.Length.{length-spelled}
+use Rattle.house_text.proofs.TextLemma.{places, text-lemma}
+use Rattle.house_text.proofs.WellFormed.{spelled-utf8}
+use Rattle.house_text.specs.Spelling.{house, houseBy, spell}
+use Rattle.reader.proofs.Answers.{Way, accept, bytes, is-text, long, parse, validation, way}
+use Rattle.reader.specs.Reader.{IsAccepted, ReadOutcome, accepted, answerTo, judge, tokensIn}
+use Rattle.step.specs.Bounds.{Sound}
+use Rattle.utf8.specs.Utf8.{wellFormed}
+use Rattle.validator.specs.Validator.{allFrom, conflictAt, expressionErrors, extensionErrors, extensionFault, firstWrong, isNil, only, orElse, repeated, semitoneErrors, setValid, validationOf}
+
+-- ---- what acceptance says of each layer
+
+abbrev expsIn : List ℕ → List Exp
+expsIn t = parseOf (tokensIn t) .exps
+
+-- no error of the parser, none of validation, and the outcome is the accepted one
+passed-all : (t : List ℕ) {o : ReadOutcome} → Way t o → o .number ≡ 0
+    → (parseOf (tokensIn t) .errs ≡ []) × (validationOf (expsIn t) (evalSet (expsIn t)) ≡ [])
+    × (o ≡ accepted (rootOf (tokensIn t)) (expsIn t))
+passed-all t (long h) e = absurd (omega (arith, e))
+passed-all t (bytes h u) e = absurd (omega (arith, e))
+passed-all t (parse h u p) e = absurd (omega (arith, e))
+passed-all t (validation h u p v) e = absurd (omega (arith, e))
+passed-all t (accept h u p v) e = (p, v, refl)
+
+-- ---- what validation says of the set is carried over
+
+cons-nil : {x : ℕ} {l : List ℕ} → x ∷ l ≡ [] → {X : Type 0} → X
+cons-nil e = let z = ap length e in absurd (omega (arith, z))
+
+none-both : (a b : List ℕ) → a ++ b ≡ [] → (a ≡ []) × (b ≡ [])
+none-both [] b e = (refl, e)
+none-both (x ∷ a) b e = cons-nil e
+
+none-else : (a r : List ℕ) → orElse a r ≡ [] → (a ≡ []) × (r ≡ [])
+none-else [] r e = (refl, e)
+none-else (x ∷ a) r e = cons-nil e
+
+-- what validation's test of the set says
+pub record SetValid (s : Set) : Type 0 where
+  pub conflicts : allFrom (conflictAt s) 8 0 ≡ []
+  pub semitones : semitoneErrors s ≡ []
+
+nil-passes : (l : List ℕ) → l ≡ [] → T (isNil l)
+nil-passes [] e = tt
+nil-passes (x ∷ l) e = cons-nil e
+
+set-passes : (s : Set) → T (setValid s) → SetValid s
+unfolding setValid
+set-passes s t =
+    let a = isNil (allFrom (conflictAt s) 8 0) in
+    let b = isNil (semitoneErrors s) in
+    record { conflicts = nil (allFrom (conflictAt s) 8 0) (and-left a b t); semitones = nil (semitoneErrors s) (and-right a b t) }
+
+passes-set : (s : Set) → SetValid s → T (setValid s)
+unfolding setValid
+passes-set s v =
+    both-pass (isNil (allFrom (conflictAt s) 8 0)) (isNil (semitoneErrors s)) (nil-passes (allFrom (conflictAt s) 8 0) (v .conflicts)) (nil-passes (semitoneErrors s) (v .semitones))
+
+set-valid : (l : List Exp) (s : Set) → validationOf l s ≡ [] → (firstWrong l ≡ []) × SetValid s
+unfolding validationOf
+set-valid l s e =
+    let a = none-both (expressionErrors l) (extensionErrors l s ++ semitoneErrors s) e in
+    let b = none-both (extensionErrors l s) (semitoneErrors s) (a .1) in
+    (none-else (firstWrong l) (repeated l) (a .0) .0, record { conflicts = none-else (extensionFault empty l) (allFrom (conflictAt s) 8 0) (b .0) .1; semitones = b .1 })
+
+all-valid : (l : List Exp) (s : Set) → firstWrong l ≡ [] → repeated l ≡ [] → extensionFault empty l ≡ [] → SetValid s → validationOf l s ≡ []
+unfolding validationOf
+all-valid l s w r f v = λ i. orElse (w i) (r i) ++ (orElse (f i) (v .conflicts i) ++ v .semitones i)
+
+-- no two thirds: the first row of INCOMPAT_SET
+unlit : (a b : Bool) (e : ParserError) (r : List ℕ) → only (a && b) e ++ r ≡ [] → T (not (b && a))
+unlit true true e r h = cons-nil h
+unlit true false e r h = tt
+unlit false true e r h = tt
+unlit false false e r h = tt
+
+one-third : (s : Set) → SetValid s → T (not (s 3 && s 4))
+unfolding allFrom
+one-third s v = unlit (s 4) (s 3) (InconsistentExtension 4) (allFrom (conflictAt s) 7 1) (v .conflicts)
+
+-- ---- the spelling is accepted
+
+-- the answer to a text that has passed the layers
+is-read : (t : List ℕ) → length t ≤ 256 → wellFormed t ≡ true → parseOf (tokensIn t) .errs ≡ [] → validationOf (expsIn t) (evalSet (expsIn t)) ≡ []
+    → answerTo t ≡ accepted (rootOf (tokensIn t)) (expsIn t)
+is-read t h u p v = is-text t h u ∙ (λ i. judge (p i) 4 (judge (v i) 5 (accepted (rootOf (tokensIn t)) (expsIn t))))
+
+-- ---- which fours some accepted text has
+
+-- what the test `realizable` says, and that there is no member outside the table
+pub record Realizable (f : Four) : Type 0 where
+  pub root : Note
+  pub rooted : f .root ≡ Some root
+  pub clauses : Struct (f .normalized) (kindIn (f .normalized) (f .display))
+  pub valid : SetValid (f .normalized)
+  pub within : Low (f .normalized)
+  pub displayed : f .display ≡ displayBy (kindIn (f .normalized) (f .display)) (f .normalized)
+
+module _ (r : Note) (b : OptionalNote) (n : Set) (k : SusKind) (c : Struct n k) (v : SetValid n) (w : Low n) where
+  abbrev text : List ℕ
+  text = spell r b n k
+
+  abbrev l′ : List Exp
+  l′ = spellExps (places r n k) b n k
+
+  -- below 23 by the round trip, from 23 on neither has a member
+  same : evalSet l′ ≡ n
+  same = fun-ext λ j. by j (ltb j 23) refl
+    where
+      by : (j : ℕ) (t : Bool) → ltb j 23 ≡ t → evalSet l′ j ≡ n j
+      by j true e = round-at (places r n k) b n k c (one-third n v) j (ltb-true j 23 e)
+      by j false e = beyond l′ (spelled-allowed (places r n k) b n k) j (ltb-false j 23 e) ∙ sym (w j (ltb-false j 23 e))
+
+  exps : expsIn text ≡ l′
+  exps = text-lemma r b n k .1
+
+  validates : validationOf (expsIn text) (evalSet (expsIn text)) ≡ []
+  validates =
+      let s = spelled-valid (places r n k) b n k in
+      ap (λ (x : List Exp). validationOf x (evalSet x)) exps ∙ ap (λ (q : Set). validationOf l′ q) same ∙ all-valid l′ n (s .0) (s .1) (s .2) v
+
+  reads : answerTo text ≡ accepted (rootOf (tokensIn text)) (expsIn text)
+  reads = let h = length-spelled r b n k in is-read text (omega (arith, h)) (spelled-utf8 r b n k) (text-lemma r b n k .0) validates
+
+  display : displayOf (firstSus l′) (evalSet l′) ≡ displayBy k n
+  display = ap (displayOf (firstSus l′)) same ∙ display-by (firstSus l′) n ∙ ap (λ (q : SusKind). displayBy q n) (kind-back (places r n k) b n k)
+
+  -- the spelling of any root and bass with such a set and K is accepted, with these four
+  spelled-reads : answerTo text ≡ record {
+    number = 0;
+    count = 0;
+    four = record { root = Some r; bass = b; normalized = n; display = displayBy k n };
+    errs = [];
+  }
+  spelled-reads =
+      reads
+      ∙ (λ i. accepted (text-lemma r b n k .2 i) (exps i))
+      ∙ (λ i. record {
+        number = 0;
+        count = 0;
+        four = record { root = Some r; bass = bass-back (places r n k) b n k i; normalized = same i; display = display i };
+        errs = [];
+      })
+
+-- the house spelling of a realizable four is accepted, and has these four
+pub spelling-realizes : (f : Four) → Realizable f → IsAccepted (house f) f
+spelling-realizes f h =
+    let k = kindIn (f .normalized) (f .display) in
+    let e = spelled-reads (h .root) (f .bass) (f .normalized) k (h .clauses) (h .valid) (h .within) in
+    let t : house f ≡ spell (h .root) (f .bass) (f .normalized) k = ap (λ (x : OptionalNote). houseBy x f) (h .rooted) in
+    let z = ap answerTo t ∙ e in
+    record {
+      number = ap (λ (x : ReadOutcome). x .number) z;
+      four = ap (λ (x : ReadOutcome). x .four) z ∙ (λ i. record { root = sym (h .rooted) i; bass = f .bass; normalized = f .normalized; display = sym (h .displayed) i });
+    }
+
+-- the four of an accepted text are realizable
+pub accepted-realizable : (t : List ℕ) (f : Four) → IsAccepted t f → Realizable f
+accepted-realizable t f a =
+    let w = passed-all t (way t) (a .number) in
+    let l = expsIn t in
+    let n = evalSet l in
+    let q = root-note (tokensIn t) (w .0) in
+    let v = set-valid l n (w .1) in
+    let o = allowed-of (All Sound) (λ e m s. s) l (expressions-sound (tokensIn t)) (v .0) in
+    let s = struct l o in
+    let k : kindIn n (displayOf (firstSus l) n) ≡ kindOf (firstSus l) = kind-displayed (firstSus l) n (s .s11a) (s .s11b) (s .s11c) in
+    let e : answerTo t ≡ accepted (Some (q .0)) l = w .2 ∙ ap (λ (x : OptionalNote). accepted x l) (q .1) in
+    subst Realizable (ap (λ (x : ReadOutcome). x .four) (sym e) ∙ a .four)
+    (record {
+      root = q .0;
+      rooted = refl;
+      clauses = subst (Struct n) (sym k) s;
+      valid = v .1;
+      within = beyond l o;
+      displayed = display-by (firstSus l) n ∙ ap (λ (x : SusKind). displayBy x n) (sym k);
+    })
+
+-- ---- the test
+
+-- no member from 32 on; so it is of every record, whose set has 32 digits, and then the test sees every member outside the table
+abbrev pub Narrow : Set → Type 0
+Narrow s = (j : ℕ) → 32 ≤ j → s j ≡ false
+
+passed : (b : Bool) → T b → b ≡ true
+passed true t = refl
+passed false t = absurd t
+
+-- what it says of a record with a root
+told : (r : Note) (f : Four) → f .root ≡ Some r → Narrow (f .normalized)
+    → T (within (f .normalized) && realizableBy (kindIn (f .normalized) (f .display)) (f .normalized) (f .display)) → Realizable f
+told r f e w t =
+    let n = f .normalized in
+    let d = f .display in
+    let k = kindIn n d in
+    let v = and-right (within n) (realizableBy k n d) t in
+    let u = and-right (all (clauses n k)) (setValid n && sameList d (displayBy k n)) v in
+    record {
+      root = r;
+      rooted = e;
+      clauses = apart n k (and-left (all (clauses n k)) (setValid n && sameList d (displayBy k n)) v);
+      valid = set-passes n (and-left (setValid n) (sameList d (displayBy k n)) u);
+      within = low-of n (passed (within n) (and-left (within n) (realizableBy k n d) t)) w;
+      displayed = same-lists d (displayBy k n) (and-right (setValid n) (sameList d (displayBy k n)) u);
+    }
+
+by-root : (r : OptionalNote) (f : Four) → f .root ≡ r → Narrow (f .normalized)
+    → T (isSome r && (within (f .normalized) && realizableBy (kindIn (f .normalized) (f .display)) (f .normalized) (f .display)))
+    → Realizable f
+by-root (Some r) f e w t = told r f e w t
+by-root None f e w t = absurd t
+
+pub test-says : (f : Four) → Narrow (f .normalized) → realizable f ≡ true → Realizable f
+test-says f w e = by-root (f .root) f refl w (subst T (sym e) tt)
+
+rooted-passes : (r : Note) (x : OptionalNote) → x ≡ Some r → T (isSome x)
+rooted-passes r x e = subst (λ (o : OptionalNote). T (isSome o)) (sym e) tt
+
+pub says-test : (f : Four) → Realizable f → realizable f ≡ true
+says-test f h =
+    let n = f .normalized in
+    let d = f .display in
+    let k = kindIn n d in
+    let s : T (sameList d (displayBy k n)) = subst (λ (x : List ℕ). T (sameList d x)) (h .displayed) (same-self d) in
+    let w : T (within n) = subst T (sym (within-of n (h .within))) tt in
+    passed (realizable f)
+    (both-pass (isSome (f .root)) (within n && realizableBy k n d) (rooted-passes (h .root) (f .root) (h .rooted))
+    (both-pass (within n) (realizableBy k n d) w
+    (both-pass (all (clauses n k)) (setValid n && sameList d (displayBy k n)) (together n k (h .clauses))
+    (both-pass (setValid n) (sameList d (displayBy k n)) (passes-set n (h .valid)) s))))
+
+-- "Has some accepted text exactly these four?": exactly when the test passes
+pub some-text : (f : Four) → Narrow (f .normalized) → (realizable f ≡ true) ↔ ((t : List ℕ) × IsAccepted t f)
+some-text f w = (λ e. (house f, spelling-realizes f (test-says f w e)), λ a. says-test f (accepted-realizable (a .0) f (a .1)))
