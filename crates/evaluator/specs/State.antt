@@ -1,3 +1,4 @@
+-- Bookkeeping of contracts between our own functions; no promise of an entry point rests on it.
 -- What the code counts on: sound expressions, what it has seen of them, and the places of the display order.
 use mathlib.Core.Bool.{cond, _||_}
 use mathlib.Core.List.{List}

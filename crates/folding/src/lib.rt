@@ -5,16 +5,11 @@ ghost use lib.ListN.{length, set, take};
 ghost use Rattle.token.specs.Token.{rows, Room, Untouched, at as tokenAt};
 ghost use Rattle.folding.specs.Folding.{paired, fold7, count, isMaj, concat, preProcess};
 ghost use Rattle.folding.specs.State.{Latest, Joined, Apart, Counted, partnerCame, sevenCame, Stepped, Turned, joinsAt, TookFirst, Short};
-
-const DIM: u8 = 4;
-
-const DIM7: u8 = 5;
-
-const MAJ: u8 = 14;
-
-const MAJ7: u8 = 15;
-
-const SEVEN: u8 = 39;
+use token::DIM;
+use token::DIM7;
+use token::MAJ;
+use token::MAJ7;
+use token::SEVEN;
 
 // How many tokens there are so far, and how many partners and sevens among them are unpaired.
 pub struct Out {

@@ -5,15 +5,24 @@ ghost use Prim.Native.Nat.{_+_, _<_, _≤_};
 ghost use lib.ListN.{length, getD, drop};
 ghost use Rattle.token.specs.Token.{token as tokenOf, rows, Room, Untouched};
 ghost use Rattle.utf8.specs.Utf8.{begins, charAt};
-ghost use Rattle.lexer.specs.Words.{words as wordList, better as betterOf, longest as longestOf};
+ghost use Rattle.lexer.specs.Words.{words as wordList, better as betterOf, longest as longestWord};
 ghost use Rattle.lexer.specs.Lexer.{isLetter, digitOf, signOf, signHead, wordHead, elem, twoDigits, oneDigit, digitIn, numberHead, headBy, headOf, sizeOf, lex};
 ghost use Rattle.lexer.specs.State.{Tables, firstPlace, padded, wordAt, scan, plan, planOf, Inserted, Emitted, Written, Scanned};
 ghost use Rattle.utf8.specs.declared.Found.the-variants as utf8;
+use token::AUG;
+use token::COMMA;
+use token::DIM;
+use token::EOF;
+use token::FLAT;
+use token::HALF_DIM;
+use token::HYPHEN;
+use token::ILLEGAL;
+use token::LPARENT;
+use token::MAJ7;
+use token::RPARENT;
+use token::SHARP;
+use token::SLASH;
 use utf8::Found;
-
-const ILLEGAL: u8 = 21;
-
-const EOF: u8 = 22;
 
 // The words of `from_string`, as rows of ten bytes. What fills a row is not looked at; it counts the places, since a run of equal bytes in
 // a table takes three times as long to set up.
@@ -263,7 +272,7 @@ fn first_word(b: u8) -> usize
 // The longest word that stands at a place of the text: only words with the letter that is there are tried.
 fn longest(words: &[[u8; 10]; 55], infos: &[[u8; 3]; 55], text: &[u8], at: usize) -> Match
     requires { ⌜ Tables (now words) (now infos) × (at < length (now text)) ⌝ }
-    ensures { λ r. ⌜ r ≡ longestOf (drop at (now (text .entry))) ⌝ }
+    ensures { λ r. ⌜ r ≡ longestWord (drop at (now (text .entry))) ⌝ }
 {
     let mut m = Match {
         len: 0,
@@ -305,25 +314,25 @@ fn digit_of(c: u32) -> u8
     10
 }
 
-// The number of a sign's type, 0 for a character that is no sign.
+// The number of a sign's type, 0 for a character that is no sign: # ♯ ♭ △ ^ Δ - ° ø / + , ( ) in this order.
 fn sign_of(c: u32) -> u8
     ensures { λ r. ⌜ r ≡ signOf c ⌝ }
 {
     match c {
-        0x23 => 1,
-        0x266F => 1,
-        0x266D => 2,
-        0x25B3 => 15,
-        0x5E => 15,
-        0x394 => 15,
-        0x2D => 13,
-        0xB0 => 4,
-        0xF8 => 6,
-        0x2F => 16,
-        0x2B => 3,
-        0x2C => 19,
-        0x28 => 17,
-        0x29 => 18,
+        0x23 => SHARP,
+        0x266F => SHARP,
+        0x266D => FLAT,
+        0x25B3 => MAJ7,
+        0x5E => MAJ7,
+        0x394 => MAJ7,
+        0x2D => HYPHEN,
+        0xB0 => DIM,
+        0xF8 => HALF_DIM,
+        0x2F => SLASH,
+        0x2B => AUG,
+        0x2C => COMMA,
+        0x28 => LPARENT,
+        0x29 => RPARENT,
         _ => 0,
     }
 }

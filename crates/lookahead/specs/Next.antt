@@ -1,4 +1,5 @@
--- What the tokens behind the one that is read can be to it.
+-- What the tokens after the one that is read can be to it. Where there is no token it is Other: the Rust's `peek` gives none there, which is
+-- no End.
 use mathlib.Core.Bool.{Bool, true, false}
 use Prim.Native.Nat.{ℕ}
 use Rattle.chord.specs.declared.note.OptionalNote.the-variants as optional
@@ -10,7 +11,7 @@ use Rattle.token.specs.declared.TokenType.{TokenType}
 use Rattle.lookahead.specs.declared.Next.the-variants.{Note, Sharp, Flat, Extension, Maj7, Eof, Other}
 use Rattle.lookahead.specs.declared.Next.{Next}
 
--- what the Rust asks of a token behind: `next_if`, `peek`, `expect_note`, `expect_peek`
+-- what the Rust asks of a token that comes next: `next_if`, `peek`, `expect_note`, `expect_peek`
 abbrev pub nextOf : TokenType → Next
 nextOf (type.Note l) = Note l
 nextOf type.Sharp = Sharp
@@ -96,7 +97,7 @@ isEnd Maj7 = false
 isEnd Eof = true
 isEnd Other = false
 
--- `expect_note`: the note that begins here, with the sign behind it
+-- `expect_note`: the note that begins here, with the sign after it
 abbrev pub noteFrom : Next → RootModifier → OptionalNote
 noteFrom (Note l) m = optional.Some (record { literal = l; modifier = m })
 noteFrom Sharp m = optional.None

@@ -1,4 +1,4 @@
-// What a token behind the one that is read can be to it, and the three that it can ask for.
+// What a token after the one that is read can be to it, and the three that it can ask for.
 ghost use mathlib.Core.Path.{_≡_};
 ghost use Rattle.lookahead.specs.Next.{nextOf, numberIn, isNumber, signIn, isSign, isMaj7, isEnd, noteFrom};
 use chord::note::Note;
@@ -17,7 +17,7 @@ pub enum Next {
     Other,
 }
 
-// The three tokens behind the one that is read, and where the first two stand.
+// The three tokens after the one that is read, and where the first two stand.
 pub struct Ahead {
     pub first: Next,
     pub second: Next,
@@ -126,7 +126,7 @@ impl Next {
         }
     }
 
-    // The note that begins here, with the sign of the token behind it.
+    // The note that begins here, with the sign of the token after it.
     pub fn note(self, modifier: RootModifier) -> OptionalNote
         ensures { λ r. ⌜ r ≡ noteFrom self modifier ⌝ }
     {

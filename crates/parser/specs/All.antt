@@ -1,3 +1,4 @@
+-- Bookkeeping of contracts between our own functions; no promise of an entry point rests on it.
 -- What holds of every element of a list.
 use mathlib.Core.List.{List, [], _∷_}
 

@@ -5,6 +5,7 @@ use Prim.Native.Nat.{ℕ, zero, suc}
 use lib.Dec.{eqb}
 use lib.IntN.{ℤ, pos}
 use lib.ListN.{drop}
+use Rattle.chord.specs.Interval.{majorSixth}
 use Rattle.chord.specs.declared.note.OptionalNote.the-variants as optional
 use Rattle.chord.specs.declared.note.OptionalNote.{OptionalNote}
 use Rattle.expression.specs.ParserError.{numbersOf}
@@ -66,7 +67,7 @@ isSix Dim7 = false
 isSix Alt = false
 isSix Aug = false
 isSix (Sus i) = false
-isSix (Extension i p) = eqb i 11
+isSix (Extension i p) = eqb i majorSixth
 isSix (Add i p) = false
 isSix (Omit i p) = false
 isSix (SlashBass n) = false

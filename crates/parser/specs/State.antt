@@ -1,3 +1,4 @@
+-- Bookkeeping of contracts between our own functions; no promise of an entry point rests on it.
 -- The parser's state as values: what the code's struct and its lent arrays stand for, and what the code keeps true of them.
 use mathlib.Core.Bool.{Bool, false, cond}
 use mathlib.Core.List.{List, [], _∷_, _++_, map}
@@ -64,7 +65,7 @@ stackBy inside q stk = cond inside (q ∷ stk) []
 abbrev pub effectIn : List ℕ → List ℕ → List ℕ → List ℕ → State → Bracket → ℕ → Effect
 effectIn ks ps ls xs st b q = insideOf b q (typeOf (getD ks (st .at) 0)) (hereIn ps ls xs st) (aheadIn ks ps (st .at + 1))
 
--- how many of the tokens behind it the effect of such a token depends on
+-- how many of the tokens after it the effect of such a token depends on
 abbrev pub reachOf : TokenType → ℕ
 reachOf (type.Note l) = 0
 reachOf type.Sharp = 1

@@ -13,9 +13,9 @@ use crate::state::State;
 use crate::state::ahead_of;
 use crate::state::here_at;
 use crate::state::next_at;
-use lookahead::Next;
 use chord::note::OptionalNote;
 use expression::parser_error::ParserError;
+use lookahead::Next;
 use step::context::Context;
 use step::effect::Effect;
 use step::effect::Gains;
@@ -171,7 +171,13 @@ fn begin(root: OptionalNote, next: Next, errs: &mut [u16]) -> State
 }
 
 // Reads the tokens that three arrays of one length hold, and writes what is found from the beginning of the two lists on.
-pub fn parse(kinds: &[u8], poss: &[u16], lens: &[u16], errs: &mut [u16], exps: &mut [u32]) -> ParseResult
+pub fn parse(
+    kinds: &[u8],
+    poss: &[u16],
+    lens: &[u16],
+    errs: &mut [u16],
+    exps: &mut [u32],
+) -> ParseResult
     requires { ⌜ Tokens (now kinds) (now poss) (now lens) × Space (now errs) (now exps) ⌝ }
     ensures { λ r. ⌜ Parsed (rows (now (kinds .entry)) (now (poss .entry)) (now (lens .entry))) r (now (errs .entry)) (now (errs .exit)) (now (exps .entry)) (now (exps .exit)) ⌝ }
 {

@@ -74,7 +74,7 @@ fn ahead_at(kinds: &[u8], poss: &[u16], i: usize) -> Ahead
     }
 }
 
-// How many of the tokens behind it the effect of such a token depends on.
+// How many of the tokens after it the effect of such a token depends on.
 fn reach(kind: TokenType) -> u8
     ensures { λ r. ⌜ r ≡ reachOf kind ⌝ }
 {
@@ -91,7 +91,7 @@ fn reach(kind: TokenType) -> u8
     }
 }
 
-// Nothing behind the token `first` is told.
+// Nothing after the token `first` is told.
 fn only(first: Next) -> Ahead
     ensures { λ r. ⌜ r .first ≡ first ⌝ }
 {

@@ -21,7 +21,7 @@ pub record ReadGave (o : ReadOutcome) (r : Reading) (es es′ : List ℕ) : Type
 abbrev pub Read : (text es es′ : List ℕ) → Reading → Type 0
 Read text es es′ r = ReadGave (readOf (length es) text) r es es′
 
--- the first e tokens are those of the text, folded
+-- bookkeeping of a private contract: the first e tokens are those of the text, folded
 pub record Tokenized (text : List ℕ) (e : ℕ) (ks ps ls : List ℕ) : Type 0 where
   pub few : e ≤ 257
   pub room : Room e ks ps ls

@@ -1,9 +1,11 @@
+-- Bookkeeping of contracts between our own functions; no promise of an entry point rests on it.
 -- Bounds of an effect: how much it does at most, and which expressions it may gain. Contracts and laws of the later layers use them.
 use mathlib.Core.Bool.{false}
 use mathlib.Core.Path.{_≡_}
 use Prim.Native.Nat.{ℕ, _+_, _≤_, _<_}
 use lib.Dec.{eqb}
 use lib.Signed.{mag}
+use Rattle.chord.specs.Interval.{augmentedFourth}
 use Rattle.expression.specs.declared.expression.Exp.the-variants.{Power, Bass, Maj, Maj7, Minor, HalfDim, Dim, Dim7, Alt, Aug, Sus, Extension, Add, Omit, SlashBass}
 use Rattle.expression.specs.declared.expression.Exp.{Exp}
 use Rattle.step.specs.declared.context.Context.the-variants as context
@@ -25,7 +27,7 @@ gainsCount gains.None = 0
 gainsCount (gains.One e) = 1
 gainsCount (gains.Two e f) = 2
 
--- what an effect does at most: only behind sus are there two expressions, and the state is not sus then
+-- what an effect does at most: only after sus are there two expressions, and the state is not sus then
 pub record Small (h : Here) (e : Effect) : Type 0 where
   pub gained : gainsCount (e .gains) + susBit (e .context) ≤ 1 + susBit (h .context)
   pub counted : mag (e .count) ≤ mag (h .count) + 1
@@ -44,7 +46,7 @@ Sound Dim7 = Unit
 Sound Alt = Unit
 Sound Aug = Unit
 Sound (Sus i) = i < 23
-Sound (Extension i p) = (i < 23) × (eqb i 6 ≡ false)
+Sound (Extension i p) = (i < 23) × (eqb i augmentedFourth ≡ false)
 Sound (Add i p) = i < 23
 Sound (Omit i p) = i < 23
 Sound (SlashBass n) = Unit

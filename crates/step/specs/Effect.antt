@@ -25,7 +25,7 @@ pushing2 h e f = record { taken = 0; count = h .count; context = h .context; gai
 abbrev pub failing : Here → ParserError → Effect
 failing h e = record { taken = 0; count = h .count; context = h .context; gains = gains.None; error = error.Some e }
 
--- n tokens behind are taken too (`next`, `next_if`)
+-- n tokens after it are taken too (`next`, `next_if`)
 abbrev pub taking : ℕ → Effect → Effect
 taking n e = record { taken = n; count = e .count; context = e .context; gains = e .gains; error = e .error }
 

@@ -1,23 +1,73 @@
--- The interval of a number by its sign, as the Rust's `from_modifier_extension` has it; 23 is none.
+-- The interval of a number by its sign, as the Rust's `from_modifier_extension` has it.
 use mathlib.Core.Bool.{cond}
 use mathlib.Core.List.{List, [], _∷_}
 use Prim.Native.Nat.{ℕ}
 use lib.Dec.{ltb}
 use lib.ListN.{getD}
+use Rattle.chord.specs.Interval.{unison, minorSecond, majorSecond, minorThird, majorThird, perfectFourth, augmentedFourth, diminishedFifth, perfectFifth, augmentedFifth, minorSixth, majorSixth, minorSeventh, octave, flatNinth, ninth, sharpNinth, eleventh, sharpEleventh, flatThirteenth, thirteenth}
 use Rattle.chord.specs.declared.note.RootModifier.the-variants.{Natural, Sharp, Flat}
 use Rattle.chord.specs.declared.note.RootModifier.{RootModifier}
 
--- `from_modifier_extension` without a sign, by the number from 0
+-- what stands for no interval
+abbrev pub noInterval : ℕ
+noInterval = 23
+
+-- `from_modifier_extension`, by the number from 0 to 13: without a sign 1 2 3 4 5 6 7 8 9 11 13 have an interval,
 abbrev pub natural : List ℕ
-natural = 23 ∷ 0 ∷ 2 ∷ 4 ∷ 5 ∷ 8 ∷ 11 ∷ 13 ∷ 15 ∷ 17 ∷ 23 ∷ 19 ∷ 23 ∷ 22 ∷ []
+natural =
+    noInterval
+    ∷ unison
+    ∷ majorSecond
+    ∷ majorThird
+    ∷ perfectFourth
+    ∷ perfectFifth
+    ∷ majorSixth
+    ∷ minorSeventh
+    ∷ octave
+    ∷ ninth
+    ∷ noInterval
+    ∷ eleventh
+    ∷ noInterval
+    ∷ thirteenth
+    ∷ []
 
--- `from_modifier_extension` with a sharp
+-- with a sharp 4 5 9 11,
 abbrev pub sharp : List ℕ
-sharp = 23 ∷ 23 ∷ 23 ∷ 23 ∷ 6 ∷ 9 ∷ 23 ∷ 23 ∷ 23 ∷ 18 ∷ 23 ∷ 20 ∷ 23 ∷ 23 ∷ []
+sharp =
+    noInterval
+    ∷ noInterval
+    ∷ noInterval
+    ∷ noInterval
+    ∷ augmentedFourth
+    ∷ augmentedFifth
+    ∷ noInterval
+    ∷ noInterval
+    ∷ noInterval
+    ∷ sharpNinth
+    ∷ noInterval
+    ∷ sharpEleventh
+    ∷ noInterval
+    ∷ noInterval
+    ∷ []
 
--- `from_modifier_extension` with a flat
+-- and with a flat 2 3 5 6 7 9 13
 abbrev pub flat : List ℕ
-flat = 23 ∷ 23 ∷ 1 ∷ 3 ∷ 23 ∷ 7 ∷ 10 ∷ 13 ∷ 23 ∷ 16 ∷ 23 ∷ 23 ∷ 23 ∷ 21 ∷ []
+flat =
+    noInterval
+    ∷ noInterval
+    ∷ minorSecond
+    ∷ minorThird
+    ∷ noInterval
+    ∷ diminishedFifth
+    ∷ minorSixth
+    ∷ minorSeventh
+    ∷ noInterval
+    ∷ flatNinth
+    ∷ noInterval
+    ∷ noInterval
+    ∷ noInterval
+    ∷ flatThirteenth
+    ∷ []
 
 -- its choice by the sign
 abbrev pub intervalsBy : RootModifier → List ℕ
@@ -27,4 +77,4 @@ intervalsBy Flat = flat
 
 -- `from_modifier_extension`: no number above 13 has an interval
 abbrev pub intervalOf : RootModifier → ℕ → ℕ
-intervalOf m n = cond (ltb n 14) (getD (intervalsBy m) n 0) 23
+intervalOf m n = cond (ltb n 14) (getD (intervalsBy m) n 0) noInterval

@@ -4,6 +4,7 @@ use Prim.Native.Nat.{ℕ, _+_}
 use lib.Dec.{eqb}
 use lib.IntN.{pos, _+ℤ_, _-ℤ_}
 use lib.Signed.{ltZ}
+use Rattle.chord.specs.Interval.{augmentedFourth, diminishedFifth, majorSecond, majorSeventh, majorThird, minorSecond, ninth, perfectFifth, perfectFourth}
 use Rattle.chord.specs.declared.note.Note.{Note}
 use Rattle.chord.specs.declared.note.OptionalNote.the-variants as optional
 use Rattle.chord.specs.declared.note.OptionalNote.{OptionalNote}
@@ -15,7 +16,7 @@ use Rattle.token.specs.declared.TokenType.the-variants as type
 use Rattle.token.specs.declared.TokenType.{TokenType}
 use Rattle.step.specs.Context.{isNone, memberOf, onComma, startGroup}
 use Rattle.step.specs.Effect.{counting, erring, failing, kept, pushing, pushing2, taking, within}
-use Rattle.step.specs.Interval.{intervalOf}
+use Rattle.step.specs.Interval.{intervalOf, noInterval}
 use Rattle.lookahead.specs.Next.{isEnd, isMaj7, isNumber, isSign, noteFrom, numberIn, signIn}
 use Rattle.step.specs.declared.context.Context.the-variants as context
 use Rattle.step.specs.declared.context.Context.{Context}
@@ -29,15 +30,15 @@ use Rattle.step.specs.declared.step.Bracket.{Bracket}
 
 -- `add_interval` outside sus and active groups: the fourth is sus, and #4 is not allowed
 abbrev pub intervalAlone : Here → ℕ → ℕ → Effect
-intervalAlone h i p = cond (eqb i 5) (pushing h (Sus 5)) (cond (eqb i 6) (failing h (InvalidExtension p)) (pushing h (Extension i p)))
+intervalAlone h i p = cond (eqb i perfectFourth) (pushing h (Sus perfectFourth)) (cond (eqb i augmentedFourth) (failing h (InvalidExtension p)) (pushing h (Extension i p)))
 
 -- `allowed_sus_interval`: the seconds, the fourth and #4
 abbrev pub susAllows : ℕ → Bool
-susAllows i = eqb i 1 || (eqb i 2 || (eqb i 5 || eqb i 6))
+susAllows i = eqb i minorSecond || (eqb i majorSecond || (eqb i perfectFourth || eqb i augmentedFourth))
 
 -- `add_interval` in sus: an interval that sus does not take leaves it the fourth (`add_sus_exp`)
 abbrev pub intervalInSus : Here → ℕ → ℕ → Effect
-intervalInSus h i p = within context.None (cond (susAllows i) (pushing h (Sus i)) (pushing2 h (Sus 5) (Extension i p)))
+intervalInSus h i p = within context.None (cond (susAllows i) (pushing h (Sus i)) (pushing2 h (Sus perfectFourth) (Extension i p)))
 
 -- `add_interval`, by the state
 abbrev pub addInterval : Context → Here → ℕ → ℕ → Effect
@@ -47,9 +48,9 @@ addInterval (context.Group g) h i p = cond (g .active) (pushing h (memberOf (g .
 
 -- `modifier` and `extension`: the interval i at p; where there is none, kind 6 at q
 abbrev pub placed : Here → ℕ → ℕ → ℕ → Effect
-placed h i p q = cond (eqb i 23) (failing h (InvalidExtension q)) (addInterval (h .context) h i p)
+placed h i p q = cond (eqb i noInterval) (failing h (InvalidExtension q)) (addInterval (h .context) h i p)
 
--- `modifier`: a sign takes the number behind it
+-- `modifier`: a sign takes the number after it
 abbrev pub modifierStep : RootModifier → Here → Next → Effect
 modifierStep m h nx =
     cond (isNumber nx) (taking 1 (placed h (intervalOf m (numberIn nx)) (h .pos) (h .pos + 1)))
@@ -63,35 +64,35 @@ isPower n c = eqb n 5 && isNone c
 abbrev pub numberStep : ℕ → Here → Effect
 numberStep n h = cond (isPower n (h .context)) (pushing h Power) (placed h (intervalOf Natural n) (h .pos) (h .pos))
 
--- `aug`: a 5 behind it is taken with it
+-- `aug`: a 5 after it is taken with it
 abbrev pub augStep : Here → Next → Effect
 augStep h nx = cond (eqb (numberIn nx) 5) (taking 1 (pushing h Aug)) (pushing h Aug)
 
--- `hyphen`: with a 5 behind it the diminished fifth, else minor
+-- `hyphen`: with a 5 after it the diminished fifth, else minor
 abbrev pub hyphenStep : Here → Next → Effect
-hyphenStep h nx = cond (eqb (numberIn nx) 5) (taking 1 (pushing h (Extension 7 (h .pos)))) (pushing h Minor)
+hyphenStep h nx = cond (eqb (numberIn nx) 5) (taking 1 (pushing h (Extension diminishedFifth (h .pos)))) (pushing h Minor)
 
--- `sus`: a number or a sign behind it says which, else it is the fourth
+-- `sus`: a number or a sign after it says which, else it is the fourth
 abbrev pub susStep : Here → Next → Effect
-susStep h nx = cond (isNumber nx || isSign nx) (within context.Sus (kept h)) (within context.None (pushing h (Sus 5)))
+susStep h nx = cond (isNumber nx || isSign nx) (within context.Sus (kept h)) (within context.None (pushing h (Sus perfectFourth)))
 
--- `omit`: a 5 or a 3 behind it (`consume_extension_if`)
+-- `omit`: a 5 or a 3 after it (`consume_extension_if`)
 abbrev pub omitTarget : Here → Next → Effect
 omitTarget h nx =
-    cond (eqb (numberIn nx) 5) (taking 1 (pushing h (Omit 8 (h .pos + h .len))))
-    (cond (eqb (numberIn nx) 3) (taking 1 (pushing h (Omit 4 (h .pos + h .len))))
+    cond (eqb (numberIn nx) 5) (taking 1 (pushing h (Omit perfectFifth (h .pos + h .len))))
+    (cond (eqb (numberIn nx) 3) (taking 1 (pushing h (Omit majorThird (h .pos + h .len))))
     (failing h (IllegalOrMissingOmitTarget (h .pos) (h .len))))
 
 -- `omit`: "Omit and Add open a group only while the count is above 0"
 abbrev pub omitStep : Here → Next → Effect
 omitStep h nx = within (startGroup (h .context) group.Omit (ltZ (pos 0) (h .count))) (omitTarget h nx)
 
--- `add` behind its sign m: the token nx at q, before which k tokens are taken; a number or a Maj7
+-- `add` after its sign m: the token nx at q, before which k tokens are taken; a number or a Maj7
 abbrev pub addTarget : ℕ → RootModifier → Here → Next → ℕ → Effect
 addTarget k m h nx q =
     cond (isNumber nx)
-    (taking (k + 1) (cond (eqb (intervalOf m (numberIn nx)) 23) (failing h (InvalidExtension (h .pos))) (pushing h (Add (intervalOf m (numberIn nx)) q))))
-    (cond (isMaj7 nx) (taking (k + 1) (pushing h (Add 14 (h .pos + h .len))))
+    (taking (k + 1) (cond (eqb (intervalOf m (numberIn nx)) noInterval) (failing h (InvalidExtension (h .pos))) (pushing h (Add (intervalOf m (numberIn nx)) q))))
+    (cond (isMaj7 nx) (taking (k + 1) (pushing h (Add majorSeventh (h .pos + h .len))))
     (taking k (failing h (MissingAddTarget (h .pos) (h .len)))))
 
 -- `add`: the sign that `match_modifier` takes, or none
@@ -124,18 +125,18 @@ noteStep optional.None h a = taking 1 (failing h (IllegalSlashNotation (h .pos))
 -- "A slash always consumes the token after it." (`slash`)
 abbrev pub slashStep : Here → Ahead → Effect
 slashStep h a =
-    cond (sixNine h (a .first)) (thenEnd h (a .second) (taking 1 (pushing h (Add 17 (a .pos)))))
+    cond (sixNine h (a .first)) (thenEnd h (a .second) (taking 1 (pushing h (Add ninth (a .pos)))))
     (noteStep (noteFrom (a .first) (signIn (a .second))) h a)
 
 -- "an opening sign sets the state to none" (`lparen`)
 abbrev pub openStep : Here → Effect
 openStep h = within context.None (counting (h .count +ℤ pos 1) (kept h))
 
--- `lparen` at its closing sign: "Closing a bracket does not end an Add or Omit group opened inside it"
+-- the matched closing sign (`lparen`): "Closing a bracket does not end an Add or Omit group opened inside it"
 abbrev pub matchedClose : Here → Effect
 matchedClose h = counting (h .count -ℤ pos 1) (kept h)
 
--- "A closing sign outside any bracket always gives kind 15 and lowers the count by one, below 0 if need be." (`rparen`)
+-- the unmatched one: "A closing sign outside any bracket always gives kind 15 and lowers the count by one, below 0 if need be." (`rparen`)
 abbrev pub unmatchedClose : Here → Effect
 unmatchedClose h = within context.None (erring (UnexpectedClosingParenthesis (h .pos)) (counting (h .count -ℤ pos 1) (kept h)))
 

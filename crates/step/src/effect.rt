@@ -1,4 +1,4 @@
-// The effect of a token: how many tokens behind it are taken with it, the state after it, and what is added to the two lists.
+// The effect of a token: how many tokens after it are taken with it, the state after it, and what is added to the two lists.
 ghost use mathlib.Core.Path.{_≡_};
 ghost use Rattle.step.specs.Effect.{kept, pushing, pushing2, failing, taking, within, erring};
 ghost use Rattle.step.specs.declared.context.Context.the-variants.{None};
@@ -59,7 +59,7 @@ pub(crate) fn enter(h: Here, context: Context) -> Effect
     }
 }
 
-// An expression, for which so many tokens behind are taken too.
+// An expression, for which so many tokens after it are taken too.
 pub(crate) fn push(h: Here, e: Exp, taken: usize) -> Effect
     ensures { λ r. ⌜ r ≡ taking taken (pushing h e) ⌝ }
 {
@@ -113,7 +113,7 @@ pub(crate) fn fail(h: Here, e: ParserError, taken: usize) -> Effect
 }
 
 impl Effect {
-    // So many tokens behind are taken too.
+    // So many tokens after it are taken too.
     pub(crate) fn take(self, n: usize) -> Effect
         ensures { λ r. ⌜ r ≡ taking n self ⌝ }
     {

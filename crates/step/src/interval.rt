@@ -1,25 +1,49 @@
-// The interval that a sign and a number name; 23 is none.
+// The interval that a sign and a number name.
 ghost use mathlib.Core.Path.{_≡_};
 ghost use Rattle.step.specs.Interval.{intervalOf};
 ghost use Rattle.chord.specs.declared.note.RootModifier.the-variants.{Natural, Sharp, Flat};
+use chord::interval::AUGMENTED_FIFTH;
+use chord::interval::AUGMENTED_FOURTH;
+use chord::interval::DIMINISHED_FIFTH;
+use chord::interval::ELEVENTH;
+use chord::interval::FLAT_NINTH;
+use chord::interval::FLAT_THIRTEENTH;
+use chord::interval::MAJOR_SECOND;
+use chord::interval::MAJOR_SIXTH;
+use chord::interval::MAJOR_THIRD;
+use chord::interval::MINOR_SECOND;
+use chord::interval::MINOR_SEVENTH;
+use chord::interval::MINOR_SIXTH;
+use chord::interval::MINOR_THIRD;
+use chord::interval::NINTH;
+use chord::interval::OCTAVE;
+use chord::interval::PERFECT_FIFTH;
+use chord::interval::PERFECT_FOURTH;
+use chord::interval::SHARP_ELEVENTH;
+use chord::interval::SHARP_NINTH;
+use chord::interval::THIRTEENTH;
+use chord::interval::UNISON;
 use chord::note::RootModifier;
+
+// What stands for no interval.
+pub(crate) const NO_INTERVAL: u8 = 23;
 
 fn natural(number: u8) -> u8
     ensures { λ r. ⌜ r ≡ intervalOf Natural number ⌝ }
 {
     match number {
-        1 => 0,
-        2 => 2,
-        3 => 4,
-        4 => 5,
-        5 => 8,
-        6 => 11,
-        7 => 13,
-        8 => 15,
-        9 => 17,
-        11 => 19,
-        13 => 22,
-        _ => 23,
+        1 => UNISON,
+        2 => MAJOR_SECOND,
+        3 => MAJOR_THIRD,
+        4 => PERFECT_FOURTH,
+        5 => PERFECT_FIFTH,
+        6 => MAJOR_SIXTH,
+        7 => MINOR_SEVENTH,
+        8 => OCTAVE,
+        9 => NINTH,
+        11 => ELEVENTH,
+        13 => THIRTEENTH,
+        _ => NO_INTERVAL,
     }
 }
 
@@ -27,11 +51,11 @@ fn sharp(number: u8) -> u8
     ensures { λ r. ⌜ r ≡ intervalOf Sharp number ⌝ }
 {
     match number {
-        4 => 6,
-        5 => 9,
-        9 => 18,
-        11 => 20,
-        _ => 23,
+        4 => AUGMENTED_FOURTH,
+        5 => AUGMENTED_FIFTH,
+        9 => SHARP_NINTH,
+        11 => SHARP_ELEVENTH,
+        _ => NO_INTERVAL,
     }
 }
 
@@ -39,14 +63,14 @@ fn flat(number: u8) -> u8
     ensures { λ r. ⌜ r ≡ intervalOf Flat number ⌝ }
 {
     match number {
-        2 => 1,
-        3 => 3,
-        5 => 7,
-        6 => 10,
-        7 => 13,
-        9 => 16,
-        13 => 21,
-        _ => 23,
+        2 => MINOR_SECOND,
+        3 => MINOR_THIRD,
+        5 => DIMINISHED_FIFTH,
+        6 => MINOR_SIXTH,
+        7 => MINOR_SEVENTH,
+        9 => FLAT_NINTH,
+        13 => FLAT_THIRTEENTH,
+        _ => NO_INTERVAL,
     }
 }
 

@@ -17,14 +17,24 @@ use crate::effect::keep;
 use crate::effect::push;
 use crate::effect::push_after_sus;
 use crate::effect::push_two_after_sus;
+use crate::interval::NO_INTERVAL;
 use crate::interval::from_modifier_extension;
-use lookahead::Ahead;
-use lookahead::Next;
+use chord::interval::AUGMENTED_FOURTH;
+use chord::interval::DIMINISHED_FIFTH;
+use chord::interval::MAJOR_SECOND;
+use chord::interval::MAJOR_SEVENTH;
+use chord::interval::MAJOR_THIRD;
+use chord::interval::MINOR_SECOND;
+use chord::interval::NINTH;
+use chord::interval::PERFECT_FIFTH;
+use chord::interval::PERFECT_FOURTH;
 use chord::note::Note;
 use chord::note::OptionalNote;
 use chord::note::RootModifier;
 use expression::expression::Exp;
 use expression::parser_error::ParserError;
+use lookahead::Ahead;
+use lookahead::Next;
 use token::TokenType;
 
 // What a token is to the bracket around it.
@@ -56,10 +66,10 @@ fn is_inside(h: Here) -> bool
 fn interval_alone(h: Here, interval: u8, pos: u16) -> Effect
     ensures { λ r. ⌜ r ≡ intervalAlone h interval pos ⌝ }
 {
-    if interval == 5 {
-        return push(h, Exp::Sus(5), 0);
+    if interval == PERFECT_FOURTH {
+        return push(h, Exp::Sus(PERFECT_FOURTH), 0);
     }
-    if interval == 6 {
+    if interval == AUGMENTED_FOURTH {
         return fail(h, ParserError::InvalidExtension(pos), 0);
     }
     push(h, Exp::Extension(interval, pos), 0)
@@ -68,16 +78,16 @@ fn interval_alone(h: Here, interval: u8, pos: u16) -> Effect
 fn allowed_sus_interval(interval: u8) -> bool
     ensures { λ r. ⌜ r ≡ susAllows interval ⌝ }
 {
-    if interval == 1 {
+    if interval == MINOR_SECOND {
         return true;
     }
-    if interval == 2 {
+    if interval == MAJOR_SECOND {
         return true;
     }
-    if interval == 5 {
+    if interval == PERFECT_FOURTH {
         return true;
     }
-    interval == 6
+    interval == AUGMENTED_FOURTH
 }
 
 // Behind sus, an interval that it does not take leaves it the fourth.
@@ -87,7 +97,7 @@ fn interval_in_sus(h: Here, interval: u8, pos: u16) -> Effect
     if allowed_sus_interval(interval) {
         return push_after_sus(h, Exp::Sus(interval));
     }
-    push_two_after_sus(h, Exp::Sus(5), Exp::Extension(interval, pos))
+    push_two_after_sus(h, Exp::Sus(PERFECT_FOURTH), Exp::Extension(interval, pos))
 }
 
 fn add_interval(h: Here, interval: u8, pos: u16) -> Effect
@@ -112,7 +122,7 @@ fn add_interval(h: Here, interval: u8, pos: u16) -> Effect
 fn place(h: Here, interval: u8, pos: u16, wrong: u16) -> Effect
     ensures { λ r. ⌜ r ≡ placed h interval pos wrong ⌝ }
 {
-    if interval == 23 {
+    if interval == NO_INTERVAL {
         return fail(h, ParserError::InvalidExtension(wrong), 0);
     }
     add_interval(h, interval, pos)
@@ -166,7 +176,7 @@ fn hyphen(h: Here, next: Next) -> Effect
     ensures { λ r. ⌜ r ≡ hyphenStep h next ⌝ }
 {
     if next.number() == 5 {
-        return push(h, Exp::Extension(7, h.pos), 1);
+        return push(h, Exp::Extension(DIMINISHED_FIFTH, h.pos), 1);
     }
     push(h, Exp::Minor, 0)
 }
@@ -180,7 +190,7 @@ fn sus(h: Here, next: Next) -> Effect
     if next.is_sign() {
         return enter(h, Context::Sus);
     }
-    push_after_sus(h, Exp::Sus(5))
+    push_after_sus(h, Exp::Sus(PERFECT_FOURTH))
 }
 
 fn omit_target(h: Here, next: Next) -> Effect
@@ -189,10 +199,10 @@ fn omit_target(h: Here, next: Next) -> Effect
 {
     let number = next.number();
     if number == 5 {
-        return push(h, Exp::Omit(8, h.pos + h.len), 1);
+        return push(h, Exp::Omit(PERFECT_FIFTH, h.pos + h.len), 1);
     }
     if number == 3 {
-        return push(h, Exp::Omit(4, h.pos + h.len), 1);
+        return push(h, Exp::Omit(MAJOR_THIRD, h.pos + h.len), 1);
     }
     fail(h, ParserError::IllegalOrMissingOmitTarget(h.pos, h.len), 0)
 }
@@ -206,20 +216,20 @@ fn omit(h: Here, next: Next) -> Effect
     omit_target(h, next).set_context(group)
 }
 
-// What an Add does with the token behind its sign m, the k-th behind it, at `at`.
+// What an Add does with the token after its sign m, the k-th after it, at `at`.
 fn add_target(k: usize, m: RootModifier, h: Here, next: Next, at: u16) -> Effect
     requires { ⌜ (h .pos + h .len < 65536) × (k < 1000) ⌝ }
     ensures { λ r. ⌜ r ≡ addTarget k m h next at ⌝ }
 {
     if next.is_extension() {
         let interval = from_modifier_extension(m, next.number());
-        if interval == 23 {
+        if interval == NO_INTERVAL {
             return fail(h, ParserError::InvalidExtension(h.pos), k + 1);
         }
         return push(h, Exp::Add(interval, at), k + 1);
     }
     if next.is_maj7() {
-        return push(h, Exp::Add(14, h.pos + h.len), k + 1);
+        return push(h, Exp::Add(MAJOR_SEVENTH, h.pos + h.len), k + 1);
     }
     fail(h, ParserError::MissingAddTarget(h.pos, h.len), k)
 }
@@ -245,7 +255,7 @@ fn add(h: Here, a: Ahead) -> Effect
     add_signed(h, a).set_context(group)
 }
 
-// A 9 behind a slash whose last expression is the extension 6.
+// A 9 after a slash whose last expression is the extension 6.
 fn is_six_nine(h: Here, next: Next) -> bool
     ensures { λ r. ⌜ r ≡ sixNine h next ⌝ }
 {
@@ -277,14 +287,14 @@ fn bass(note: Note, h: Here, a: Ahead) -> Effect
     last(h, second, Exp::SlashBass(note), 1)
 }
 
-// A slash always takes the token behind it.
+// A slash always takes the token after it.
 fn slash(h: Here, a: Ahead) -> Effect
     ensures { λ r. ⌜ r ≡ slashStep h a ⌝ }
 {
     let first = a.first;
     let second = a.second;
     if is_six_nine(h, first) {
-        return last(h, second, Exp::Add(17, a.pos), 1);
+        return last(h, second, Exp::Add(NINTH, a.pos), 1);
     }
     match first.note(second.sign()) {
         OptionalNote::Some(note) => bass(note, h, a),

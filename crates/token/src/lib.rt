@@ -31,6 +31,39 @@ pub enum TokenType {
     Eof,
 }
 
+// The numbers of the types that the lexer and the folding write, and of the extension 7.
+pub const SHARP: u8 = 1;
+
+pub const FLAT: u8 = 2;
+
+pub const AUG: u8 = 3;
+
+pub const DIM: u8 = 4;
+
+pub const DIM7: u8 = 5;
+
+pub const HALF_DIM: u8 = 6;
+
+pub const HYPHEN: u8 = 13;
+
+pub const MAJ: u8 = 14;
+
+pub const MAJ7: u8 = 15;
+
+pub const SLASH: u8 = 16;
+
+pub const LPARENT: u8 = 17;
+
+pub const RPARENT: u8 = 18;
+
+pub const COMMA: u8 = 19;
+
+pub const ILLEGAL: u8 = 21;
+
+pub const EOF: u8 = 22;
+
+pub const SEVEN: u8 = 39;
+
 // The type of a number below 32: those that carry nothing have their place in the Rust's order.
 fn plain_type(number: u8) -> TokenType
     requires { ⌜ number < 32 ⌝ }

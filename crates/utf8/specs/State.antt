@@ -1,3 +1,4 @@
+-- Bookkeeping of contracts between our own functions; no promise of an entry point rests on it.
 -- How the code hands a character on: as one number; and how long a character is.
 use mathlib.Core.Bool.{cond}
 use Prim.Native.Nat.{ℕ, _/_, _%_}

@@ -1,3 +1,4 @@
+-- Bookkeeping of contracts between our own functions; no promise of an entry point rests on it.
 -- What the code's values stand for, and what it does to the lent list.
 use mathlib.Core.Bool.{Bool, true, false}
 use mathlib.Core.List.{List, [], _++_}

@@ -25,7 +25,9 @@ pub record WriteGave (o : WriteOutcome) (r : Answer) (bs bs′ : List ℕ) : Typ
 abbrev pub Written : Chord → (bs bs′ : List ℕ) → Answer → Type 0
 Written c bs bs′ r = WriteGave (writeOf (length bs) (fourOf c)) r bs bs′
 
--- the first n bytes became the first r, with `more` behind them, and the rest of the buffer is untouched
+-- ---- bookkeeping of private contracts from here on
+
+-- the first n bytes became the first r, with `more` after them, and the rest of the buffer is untouched
 pub record Put (n r : ℕ) (more : List ℕ) (bs bs′ : List ℕ) : Type 0 where
   pub list : take r bs′ ≡ take n bs ++ more
   pub rest : drop r bs′ ≡ drop r bs
