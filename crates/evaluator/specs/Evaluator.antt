@@ -49,7 +49,8 @@ direct s (SlashBass n) = s
 -- what it pushes to `alts`
 abbrev pub alterations : List ℕ
 alterations =
-    perfectFourth ∷ augmentedFourth ∷ diminishedFifth ∷ augmentedFifth ∷ flatNinth ∷ sharpNinth ∷ sharpEleventh ∷ flatThirteenth ∷ minorSeventh ∷ []
+    perfectFourth ∷ augmentedFourth ∷ diminishedFifth ∷ augmentedFifth ∷ flatNinth ∷ sharpNinth ∷ sharpEleventh ∷ flatThirteenth
+    ∷ minorSeventh ∷ []
 
 abbrev pub altsOf : Exp → List ℕ
 altsOf Power = []
@@ -62,7 +63,8 @@ altsOf Dim = []
 altsOf Dim7 = []
 altsOf Alt = flatNinth ∷ sharpNinth ∷ sharpEleventh ∷ flatThirteenth ∷ []
 altsOf Aug = augmentedFifth ∷ []
-altsOf (Sus x) = cond (eqb x augmentedFourth) (sharpEleventh ∷ []) (cond (eqb x minorSecond) (flatNinth ∷ []) (cond (eqb x majorSecond) (ninth ∷ []) []))
+altsOf (Sus x) = cond (eqb x augmentedFourth) (sharpEleventh ∷ [])
+    (cond (eqb x minorSecond) (flatNinth ∷ []) (cond (eqb x majorSecond) (ninth ∷ []) []))
 altsOf (Extension x p) = cond (elem x alterations) (x ∷ []) []
 altsOf (Add x p) = []
 altsOf (Omit x p) = []
@@ -278,7 +280,8 @@ implied ext major maj s =
 
 -- `apply_omits`, one
 abbrev pub omit : Set → ℕ → Set
-omit s x = cond (eqb x perfectFifth) (remove (remove (remove s perfectFifth) augmentedFifth) diminishedFifth) (cond (eqb x majorThird) (removeThirds s) s)
+omit s x = cond (eqb x perfectFifth) (remove (remove (remove s perfectFifth) augmentedFifth) diminishedFifth)
+    (cond (eqb x majorThird) (removeThirds s) s)
 
 -- `apply_adds`, one
 abbrev pub add : Set → ℕ → Set

@@ -37,11 +37,13 @@ pub record Joined (k r i waiting w e : ℕ) (R R′ : List Token) : Type 0 where
 
 -- o after a partner, where e tokens are left: it pairs with a 7, or waits for one
 abbrev pub partnerCame : Out → ℕ → Out
-partnerCame o e = cond (eqb (o .sevens) 0) (record { at = e; partners = o .partners + 1; sevens = o .sevens }) (record { at = e; partners = o .partners; sevens = o .sevens - 1 })
+partnerCame o e = cond (eqb (o .sevens) 0) (record { at = e; partners = o .partners + 1; sevens = o .sevens })
+    (record { at = e; partners = o .partners; sevens = o .sevens - 1 })
 
 -- the same for a 7
 abbrev pub sevenCame : Out → ℕ → Out
-sevenCame o e = cond (eqb (o .partners) 0) (record { at = e; partners = o .partners; sevens = o .sevens + 1 }) (record { at = e; partners = o .partners - 1; sevens = o .sevens })
+sevenCame o e = cond (eqb (o .partners) 0) (record { at = e; partners = o .partners; sevens = o .sevens + 1 })
+    (record { at = e; partners = o .partners - 1; sevens = o .sevens })
 
 -- token i was taken: o and the tokens R became o′ and R′
 pub record Stepped (m r i : ℕ) (o o′ : Out) (R R′ : List Token) : Type 0 where

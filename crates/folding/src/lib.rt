@@ -43,7 +43,9 @@ fn smaller(a: u16, b: u16) -> u16
 // Token i pairs with token j, in the place of j.
 fn pair(kinds: &mut [u8], poss: &mut [u16], lens: &mut [u16], j: usize, i: usize, r: u8)
     requires { ⌜ (j ≤ i) × Room (i + 1) (now kinds) (now poss) (now lens) ⌝ }
-    ensures { λ _. ⌜ (let R = rows (now (kinds .entry)) (now (poss .entry)) (now (lens .entry)) in rows (now (kinds .exit)) (now (poss .exit)) (now (lens .exit)) ≡ set R j (paired r (tokenAt R j) (tokenAt R i))) ⌝ }
+    ensures { λ _. ⌜
+        (let R = rows (now (kinds .entry)) (now (poss .entry)) (now (lens .entry)) in rows (now (kinds .exit)) (now (poss .exit))
+        (now (lens .exit)) ≡ set R j (paired r (tokenAt R j) (tokenAt R i))) ⌝ }
 {
     let p = smaller(poss[j], poss[i]);
     let l = lens[j];
@@ -63,7 +65,8 @@ fn join(
 ) -> usize
     requires { ⌜ (w ≤ i) × Room (i + 1) (now kinds) (now poss) (now lens) ⌝ }
     requires { ⌜ waiting ≡ count k (take w (rows (now kinds) (now poss) (now lens))) ⌝ }
-    ensures { λ e. ⌜ Joined k r i waiting w e (rows (now (kinds .entry)) (now (poss .entry)) (now (lens .entry))) (rows (now (kinds .exit)) (now (poss .exit)) (now (lens .exit))) ⌝ }
+    ensures { λ e. ⌜ Joined k r i waiting w e (rows (now (kinds .entry)) (now (poss .entry)) (now (lens .entry)))
+        (rows (now (kinds .exit)) (now (poss .exit)) (now (lens .exit))) ⌝ }
 {
     if waiting == 0 {
         token::copy(kinds, poss, lens, w, i);
@@ -116,7 +119,8 @@ fn seven_came(o: Out, at: usize) -> Out
 fn step(kinds: &mut [u8], poss: &mut [u16], lens: &mut [u16], o: Out, i: usize, m: u8, r: u8) -> Out
     requires { ⌜ (o .at ≤ i) × Room (i + 1) (now kinds) (now poss) (now lens) ⌝ }
     requires { ⌜ Counted m o (rows (now kinds) (now poss) (now lens)) × Apart m r ⌝ }
-    ensures { λ e. ⌜ Stepped m r i o e (rows (now (kinds .entry)) (now (poss .entry)) (now (lens .entry))) (rows (now (kinds .exit)) (now (poss .exit)) (now (lens .exit))) ⌝ }
+    ensures { λ e. ⌜ Stepped m r i o e (rows (now (kinds .entry)) (now (poss .entry)) (now (lens .entry)))
+        (rows (now (kinds .exit)) (now (poss .exit)) (now (lens .exit))) ⌝ }
 {
     let k = kinds[i];
     let w = o.at;
@@ -141,7 +145,8 @@ fn step(kinds: &mut [u8], poss: &mut [u16], lens: &mut [u16], o: Out, i: usize, 
 // Pairs sevens with tokens of kind m among the first n; a pair has kind r.
 fn fold_7(kinds: &mut [u8], poss: &mut [u16], lens: &mut [u16], n: usize, m: u8, r: u8) -> usize
     requires { ⌜ Room n (now kinds) (now poss) (now lens) × Apart m r ⌝ }
-    ensures { λ e. ⌜ Turned (fold7 m r) n e (rows (now (kinds .entry)) (now (poss .entry)) (now (lens .entry))) (rows (now (kinds .exit)) (now (poss .exit)) (now (lens .exit))) ⌝ }
+    ensures { λ e. ⌜ Turned (fold7 m r) n e (rows (now (kinds .entry)) (now (poss .entry)) (now (lens .entry)))
+        (rows (now (kinds .exit)) (now (poss .exit)) (now (lens .exit))) ⌝ }
 {
     let mut o = Out {
         at: 0,
@@ -189,7 +194,8 @@ fn take_one(
 ) -> usize
     requires { ⌜ (w ≤ i) × (i < n) × Room n (now kinds) (now poss) (now lens) ⌝ }
     requires { ⌜ ((j : ℕ) → i ≤ j → j < n → tokenAt (rows (now kinds) (now poss) (now lens)) j .len ≤ 256) ⌝ }
-    ensures { λ e. ⌜ TookFirst i n w e (rows (now (kinds .entry)) (now (poss .entry)) (now (lens .entry))) (rows (now (kinds .exit)) (now (poss .exit)) (now (lens .exit))) ⌝ }
+    ensures { λ e. ⌜ TookFirst i n w e (rows (now (kinds .entry)) (now (poss .entry)) (now (lens .entry)))
+        (rows (now (kinds .exit)) (now (poss .exit)) (now (lens .exit))) ⌝ }
 {
     if joins(kinds, i, n) {
         let p = poss[i];
@@ -204,7 +210,8 @@ fn take_one(
 // Each Maj or Maj7 among the first n takes in a 7 right after it.
 fn concat_maj7(kinds: &mut [u8], poss: &mut [u16], lens: &mut [u16], n: usize) -> usize
     requires { ⌜ Room n (now kinds) (now poss) (now lens) × Short n (rows (now kinds) (now poss) (now lens)) ⌝ }
-    ensures { λ e. ⌜ Turned concat n e (rows (now (kinds .entry)) (now (poss .entry)) (now (lens .entry))) (rows (now (kinds .exit)) (now (poss .exit)) (now (lens .exit))) ⌝ }
+    ensures { λ e. ⌜ Turned concat n e (rows (now (kinds .entry)) (now (poss .entry)) (now (lens .entry)))
+        (rows (now (kinds .exit)) (now (poss .exit)) (now (lens .exit))) ⌝ }
 {
     let mut w = 0;
     let mut i = 0;
@@ -219,7 +226,9 @@ fn concat_maj7(kinds: &mut [u8], poss: &mut [u16], lens: &mut [u16], n: usize) -
 // new count and the old one is free; what lies behind the old one is untouched, in each of the three arrays.
 pub fn pre_process(kinds: &mut [u8], poss: &mut [u16], lens: &mut [u16], n: usize) -> usize
     requires { ⌜ Room n (now kinds) (now poss) (now lens) × Short n (rows (now kinds) (now poss) (now lens)) ⌝ }
-    ensures { λ e. ⌜ (e ≤ n) × (take e (rows (now (kinds .exit)) (now (poss .exit)) (now (lens .exit))) ≡ preProcess (take n (rows (now (kinds .entry)) (now (poss .entry)) (now (lens .entry))))) ⌝ }
+    ensures { λ e. ⌜ (e ≤ n)
+        × (take e (rows (now (kinds .exit)) (now (poss .exit)) (now (lens .exit))) ≡ preProcess
+        (take n (rows (now (kinds .entry)) (now (poss .entry)) (now (lens .entry))))) ⌝ }
     ensures { λ _. ⌜ Untouched n (now (kinds .entry)) (now (poss .entry)) (now (lens .entry))
         (now (kinds .exit)) (now (poss .exit)) (now (lens .exit)) ⌝ }
 {

@@ -100,9 +100,10 @@ abbrev pub noteOrC : OptionalNote → Note
 noteOrC optional.None = noteOf 0
 noteOrC (optional.Some b) = b
 
--- "Written in order: .. `dim7` if N has bb7, else `m` if it has b3; then .. `b5` if N has it and not bb7; `#5` and `7` if N has them; `susb2`,
--- `sus2` or `sus#4` by K; `omit3` ..; `omit5` ..; `add` with each member of N among 2, 3 (only with K or bb7), 4, b6, 6, Maj7, b9, 9, #9, 11, #11,
--- b13, 13, ascending, less the one that K gave. Last, `/` and the bass." p says where a part stands in the text, by a number that it has.
+-- "Written in order: .. `dim7` if N has bb7, else `m` if it has b3; then .. `b5` if N has it and not bb7; `#5` and `7` if N has them;
+-- `susb2`, `sus2` or `sus#4` by K; `omit3` ..; `omit5` ..; `add` with each member of N among 2, 3 (only with K or bb7), 4, b6, 6, Maj7,
+-- b9, 9, #9, 11, #11, b13, 13, ascending, less the one that K gave. Last, `/` and the bass." p says where a part stands in the text, by a
+-- number that it has.
 abbrev pub parts : (ℕ → ℕ) → OptionalNote → Set → SusKind → List Part
 parts p b n k =
     part (n diminishedSeventh) Dim7

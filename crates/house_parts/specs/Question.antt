@@ -20,8 +20,8 @@ abbrev pub all : List Bool → Bool
 all [] = true
 all (b ∷ l) = b && all l
 
--- what every evaluation of the expressions of an accepted text gives, before its set is validated: 1; no b2, #4 and 8; not 5 with b5, #5, b13
--- or bb7; with bb7 and #5 also b5; not 6 with 13; not 3 with 11; with a K no b3; and K b2 comes with b9, K 2 with 9, K #4 with #11
+-- what every evaluation of the expressions of an accepted text gives, before its set is validated: 1; no b2, #4 and 8; not 5 with b5, #5,
+-- b13 or bb7; with bb7 and #5 also b5; not 6 with 13; not 3 with 11; with a K no b3; and K b2 comes with b9, K 2 with 9, K #4 with #11
 abbrev pub clauses : Set → SusKind → List Bool
 clauses n k =
     n unison

@@ -34,8 +34,8 @@ signText Flat = ascii "b"
 abbrev pub noteText : Note → List ℕ
 noteText n = letterText (n .literal) ++ signText (n .modifier)
 
--- "`dim7` .., else `m` ..; then parts, each after a comma: `b5` ..; `#5` and `7` ..; `susb2`, `sus2` or `sus#4` ..; `omit3` ..; `omit5` ..; `add`
--- with each member of N among 2, 3, .., 4, b6, 6, Maj7, b9, 9, #9, 11, #11, b13, 13 ... Last, `/` and the bass."
+-- "`dim7` .., else `m` ..; then parts, each after a comma: `b5` ..; `#5` and `7` ..; `susb2`, `sus2` or `sus#4` ..; `omit3` ..; `omit5`
+-- ..; `add` with each member of N among 2, 3, .., 4, b6, 6, Maj7, b9, 9, #9, 11, #11, b13, 13 ... Last, `/` and the bass."
 abbrev pub texts : OptionalNote → List (List ℕ)
 texts bass =
     ascii "dim7"

@@ -31,8 +31,8 @@ unfoldable pub elem : ℕ → List ℕ → Bool
 elem x [] = false
 elem x (y ∷ ys) = eqb x y || elem x ys
 
--- The signs of `scan_token`, by character: # ♯, ♭, △ ^ Δ, -, °, ø, /, +, comma, ( and ), one line each in this order; 0 for a character that
--- has no token of its own.
+-- The signs of `scan_token`, by character: # ♯, ♭, △ ^ Δ, -, °, ø, /, +, comma, ( and ), one line each in this order; 0 for a character
+-- that has no token of its own.
 unfoldable pub signOf : ℕ → ℕ
 signOf c =
     cond (eqb c 0x23 || eqb c 0x266F) (typeNumber Sharp)

@@ -77,7 +77,8 @@ pub record Inserted (t : Token) (place n : ℕ) (R R′ : List Token) : Type 0 w
 pub record Emitted (h : Head) (s s′ : Scan) (R R′ : List Token) : Type 0 where
   pub state : s′ ≡ planOf h s .next
   pub none : planOf h s .adds ≡ false → R′ ≡ R
-  pub one : planOf h s .adds ≡ true → Inserted (token (planOf h s .kind) (planOf h s .pos) (planOf h s .len)) (planOf h s .place) (s .count) R R′
+  pub one : planOf h s .adds ≡ true
+      → Inserted (token (planOf h s .kind) (planOf h s .pos) (planOf h s .len)) (planOf h s .place) (s .count) R R′
 
 -- the first n tokens are ts, and what lies beyond them is untouched
 pub record Written (ts : List Token) (n : ℕ) (R R′ : List Token) : Type 0 where

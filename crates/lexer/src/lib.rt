@@ -504,7 +504,8 @@ fn insert(
     len: u16,
 )
     requires { ⌜ (place ≤ n) × Room (n + 1) (now kinds) (now poss) (now lens) ⌝ }
-    ensures { λ _. ⌜ Inserted (tokenOf kind pos len) place n (rows (now (kinds .entry)) (now (poss .entry)) (now (lens .entry))) (rows (now (kinds .exit)) (now (poss .exit)) (now (lens .exit))) ⌝ }
+    ensures { λ _. ⌜ Inserted (tokenOf kind pos len) place n (rows (now (kinds .entry)) (now (poss .entry)) (now (lens .entry)))
+        (rows (now (kinds .exit)) (now (poss .exit)) (now (lens .exit))) ⌝ }
 {
     let mut j = n;
     while place < j {
@@ -517,8 +518,10 @@ fn insert(
 
 // Adds what a head gives to the tokens.
 fn emit(kinds: &mut [u8], poss: &mut [u16], lens: &mut [u16], h: Head, s: Scan) -> Scan
-    requires { ⌜ (s .at + sizeOf h ≤ 256) × (s .held ≤ s .count) × (s .count ≤ 256) × Room (s .count + 1) (now kinds) (now poss) (now lens) ⌝ }
-    ensures { λ r. ⌜ Emitted h s r (rows (now (kinds .entry)) (now (poss .entry)) (now (lens .entry))) (rows (now (kinds .exit)) (now (poss .exit)) (now (lens .exit))) ⌝ }
+    requires { ⌜ (s .at + sizeOf h ≤ 256) × (s .held ≤ s .count) × (s .count ≤ 256)
+        × Room (s .count + 1) (now kinds) (now poss) (now lens) ⌝ }
+    ensures { λ r. ⌜ Emitted h s r (rows (now (kinds .entry)) (now (poss .entry)) (now (lens .entry)))
+        (rows (now (kinds .exit)) (now (poss .exit)) (now (lens .exit))) ⌝ }
 {
     let p = plan_for(h, s);
     let next = p.next;
@@ -539,7 +542,8 @@ fn scan_text(
     lens: &mut [u16],
 ) -> usize
     requires { ⌜ Tables (now words) (now infos) × (length (now text) ≤ 256) × Room (length (now text)) (now kinds) (now poss) (now lens) ⌝ }
-    ensures { λ r. ⌜ Written (lex 0 [] 0 (now (text .entry))) r (rows (now (kinds .entry)) (now (poss .entry)) (now (lens .entry))) (rows (now (kinds .exit)) (now (poss .exit)) (now (lens .exit))) × (r ≤ length (now (text .entry))) ⌝ }
+    ensures { λ r. ⌜ Written (lex 0 [] 0 (now (text .entry))) r (rows (now (kinds .entry)) (now (poss .entry)) (now (lens .entry)))
+        (rows (now (kinds .exit)) (now (poss .exit)) (now (lens .exit))) × (r ≤ length (now (text .entry))) ⌝ }
 {
     let mut s = Scan {
         at: 0,
@@ -563,8 +567,10 @@ fn scan_to_end(
     poss: &mut [u16],
     lens: &mut [u16],
 ) -> usize
-    requires { ⌜ Tables (now words) (now infos) × (length (now text) ≤ 256) × Room (length (now text) + 1) (now kinds) (now poss) (now lens) ⌝ }
-    ensures { λ r. ⌜ Scanned (now (text .entry)) r (rows (now (kinds .entry)) (now (poss .entry)) (now (lens .entry))) (rows (now (kinds .exit)) (now (poss .exit)) (now (lens .exit))) ⌝ }
+    requires { ⌜ Tables (now words) (now infos) × (length (now text) ≤ 256)
+        × Room (length (now text) + 1) (now kinds) (now poss) (now lens) ⌝ }
+    ensures { λ r. ⌜ Scanned (now (text .entry)) r (rows (now (kinds .entry)) (now (poss .entry)) (now (lens .entry)))
+        (rows (now (kinds .exit)) (now (poss .exit)) (now (lens .exit))) ⌝ }
 {
     let n = scan_text(words, infos, text, kinds, poss, lens);
     let end = text.len() + 1;
@@ -576,7 +582,8 @@ fn scan_to_end(
 // arrays. The word list is named here, once, and lent.
 pub fn scan_tokens(text: &[u8], kinds: &mut [u8], poss: &mut [u16], lens: &mut [u16]) -> usize
     requires { ⌜ (length (now text) ≤ 256) × Room (length (now text) + 1) (now kinds) (now poss) (now lens) ⌝ }
-    ensures { λ r. ⌜ Scanned (now (text .entry)) r (rows (now (kinds .entry)) (now (poss .entry)) (now (lens .entry))) (rows (now (kinds .exit)) (now (poss .exit)) (now (lens .exit))) ⌝ }
+    ensures { λ r. ⌜ Scanned (now (text .entry)) r (rows (now (kinds .entry)) (now (poss .entry)) (now (lens .entry)))
+        (rows (now (kinds .exit)) (now (poss .exit)) (now (lens .exit))) ⌝ }
     ensures { λ r. ⌜ Untouched r (now (kinds .entry)) (now (poss .entry)) (now (lens .entry))
         (now (kinds .exit)) (now (poss .exit)) (now (lens .exit)) ⌝ }
 {

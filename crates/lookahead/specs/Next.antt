@@ -1,5 +1,5 @@
--- What the tokens after the one that is read can be to it. Where there is no token it is Other: the Rust's `peek` gives none there, which is
--- no End.
+-- What the tokens after the one that is read can be to it. Where there is no token it is Other: the Rust's `peek` gives none there, which
+-- is no End.
 use mathlib.Core.Bool.{Bool, true, false}
 use Prim.Native.Nat.{ℕ}
 use Rattle.chord.specs.declared.note.OptionalNote.the-variants as optional

@@ -52,7 +52,13 @@ errorOf (error.Some e) = numbersOf e
 -- a token had the effect e
 abbrev pub applied : Effect → Parsing → Parsing
 applied e s =
-    record { skip = e .taken; count = e .count; context = e .context; errs = s .errs ++ errorOf (e .error); exps = s .exps ++ gainsOf (e .gains) }
+    record {
+      skip = e .taken;
+      count = e .count;
+      context = e .context;
+      errs = s .errs ++ errorOf (e .error);
+      exps = s .exps ++ gainsOf (e .gains);
+    }
 
 -- is it the extension 6?
 abbrev pub isSix : Exp → Bool

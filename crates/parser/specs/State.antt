@@ -31,7 +31,13 @@ abbrev pub nextIn : List ℕ → ℕ → Next
 nextIn ks i = nextOf (typeOf (getD ks i 0))
 
 abbrev pub aheadIn : List ℕ → List ℕ → ℕ → Ahead
-aheadIn ks ps i = record { first = nextIn ks i; second = nextIn ks (i + 1); third = nextIn ks (i + 2); pos = getD ps i 0; pos2 = getD ps (i + 1) 0 }
+aheadIn ks ps i = record {
+  first = nextIn ks i;
+  second = nextIn ks (i + 1);
+  third = nextIn ks (i + 2);
+  pos = getD ps i 0;
+  pos2 = getD ps (i + 1) 0;
+}
 
 abbrev pub bracketIn : List ℕ → ℕ → Bracket
 bracketIn ks i = bracketKind (typeOf (getD ks i 0))
@@ -51,7 +57,13 @@ view st es xs =
 -- what the token step is told of the token at st
 abbrev pub hereIn : List ℕ → List ℕ → List ℕ → State → Here
 hereIn ps ls xs st =
-    record { pos = getD ps (st .at) 0; len = getD ls (st .at) 0; count = st .count; context = st .context; six = lastSix false (expsOf (st .exps) xs) }
+    record {
+      pos = getD ps (st .at) 0;
+      len = getD ls (st .at) 0;
+      count = st .count;
+      context = st .context;
+      six = lastSix false (expsOf (st .exps) xs);
+    }
 
 -- what the token at i is to the bracket around it, if one is open; outside any bracket every token is Other
 abbrev pub bracketBy : Bool → List ℕ → ℕ → Bracket

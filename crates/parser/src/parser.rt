@@ -114,7 +114,8 @@ fn read_tokens(
     exps: &mut [u32],
 ) -> State
     requires { ⌜ Tokens (now kinds) (now poss) (now lens) × Ready st × Space (now errs) (now exps) ⌝ }
-    ensures { λ r. ⌜ Read (now (kinds .entry)) (now (poss .entry)) (now (lens .entry)) inside pos st r (now (errs .entry)) (now (errs .exit)) (now (exps .entry)) (now (exps .exit)) ⌝ }
+    ensures { λ r. ⌜ Read (now (kinds .entry)) (now (poss .entry)) (now (lens .entry)) inside pos st r (now (errs .entry))
+        (now (errs .exit)) (now (exps .entry)) (now (exps .exit)) ⌝ }
 {
     let mut s = st;
     while s.at < kinds.len() {
@@ -179,7 +180,8 @@ pub fn parse(
     exps: &mut [u32],
 ) -> ParseResult
     requires { ⌜ Tokens (now kinds) (now poss) (now lens) × Space (now errs) (now exps) ⌝ }
-    ensures { λ r. ⌜ Parsed (rows (now (kinds .entry)) (now (poss .entry)) (now (lens .entry))) r (now (errs .entry)) (now (errs .exit)) (now (exps .entry)) (now (exps .exit)) ⌝ }
+    ensures { λ r. ⌜ Parsed (rows (now (kinds .entry)) (now (poss .entry)) (now (lens .entry))) r (now (errs .entry)) (now (errs .exit))
+        (now (exps .entry)) (now (exps .exit)) ⌝ }
 {
     let second = next_at(kinds, 1);
     let root = next_at(kinds, 0).note(second.sign());

@@ -84,8 +84,8 @@ answerTo text = cond (ltb 256 (length text)) (refused 2) (cond (wellFormed text)
 unfoldable pub readOf : ℕ → List ℕ → ReadOutcome
 readOf room text = cond (ltb room 1028) (refused 1) (answerTo text)
 
--- "A text is accepted when each question put to a card gets yes, given an error list that is long enough. Its four are the root, slash bass or
--- none, normalized set and display list that the rules below give it"
+-- "A text is accepted when each question put to a card gets yes, given an error list that is long enough. Its four are the root, slash
+-- bass or none, normalized set and display list that the rules below give it"
 pub record IsAccepted (t : List ℕ) (f : Four) : Type 0 where
   pub number : answerTo t .number ≡ 0
   pub four : answerTo t .four ≡ f

@@ -66,7 +66,8 @@ fn evaluate(root: OptionalNote, exps: &[u32], errs: &mut [u16]) -> Reading
 // The answer to the tokens that three arrays of one length hold.
 fn parse(kinds: &[u8], poss: &[u16], lens: &[u16], errs: &mut [u16]) -> Reading
     requires { ⌜ Tokens (now kinds) (now poss) (now lens) × (1028 ≤ length (now errs)) ⌝ }
-    ensures { λ r. ⌜ ReadGave (parsed (rows (now (kinds .entry)) (now (poss .entry)) (now (lens .entry)))) r (now (errs .entry)) (now (errs .exit)) ⌝ }
+    ensures { λ r. ⌜ ReadGave (parsed (rows (now (kinds .entry)) (now (poss .entry)) (now (lens .entry)))) r (now (errs .entry))
+        (now (errs .exit)) ⌝ }
 {
     let mut exps = [0u32; 257];
     let ast = parser::parser::parse(kinds, poss, lens, errs, &mut exps);

@@ -30,7 +30,8 @@ use Rattle.step.specs.declared.step.Bracket.{Bracket}
 
 -- `add_interval` outside sus and active groups: the fourth is sus, and #4 is not allowed
 abbrev pub intervalAlone : Here → ℕ → ℕ → Effect
-intervalAlone h i p = cond (eqb i perfectFourth) (pushing h (Sus perfectFourth)) (cond (eqb i augmentedFourth) (failing h (InvalidExtension p)) (pushing h (Extension i p)))
+intervalAlone h i p = cond (eqb i perfectFourth) (pushing h (Sus perfectFourth))
+    (cond (eqb i augmentedFourth) (failing h (InvalidExtension p)) (pushing h (Extension i p)))
 
 -- `allowed_sus_interval`: the seconds, the fourth and #4
 abbrev pub susAllows : ℕ → Bool
@@ -91,7 +92,9 @@ omitStep h nx = within (startGroup (h .context) group.Omit (ltZ (pos 0) (h .coun
 abbrev pub addTarget : ℕ → RootModifier → Here → Next → ℕ → Effect
 addTarget k m h nx q =
     cond (isNumber nx)
-    (taking (k + 1) (cond (eqb (intervalOf m (numberIn nx)) noInterval) (failing h (InvalidExtension (h .pos))) (pushing h (Add (intervalOf m (numberIn nx)) q))))
+    (taking (k + 1)
+    (cond (eqb (intervalOf m (numberIn nx)) noInterval) (failing h (InvalidExtension (h .pos)))
+    (pushing h (Add (intervalOf m (numberIn nx)) q))))
     (cond (isMaj7 nx) (taking (k + 1) (pushing h (Add majorSeventh (h .pos + h .len))))
     (taking k (failing h (MissingAddTarget (h .pos) (h .len)))))
 
@@ -115,7 +118,8 @@ thenEnd h nx e = cond (isEnd nx) e (erring (IllegalSlashNotation (h .pos)) e)
 -- "a note, with its sign, is the bass"
 abbrev pub bassStep : Note → Here → Ahead → Effect
 bassStep n h a =
-    cond (isSign (a .second)) (thenEnd h (a .third) (taking 2 (pushing h (SlashBass n)))) (thenEnd h (a .second) (taking 1 (pushing h (SlashBass n))))
+    cond (isSign (a .second)) (thenEnd h (a .third) (taking 2 (pushing h (SlashBass n))))
+    (thenEnd h (a .second) (taking 1 (pushing h (SlashBass n))))
 
 -- "a note, with its sign, is the bass; anything else gives kind 14 at the slash"
 abbrev pub noteStep : OptionalNote → Here → Ahead → Effect

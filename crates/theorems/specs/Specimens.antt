@@ -11,8 +11,8 @@ use Rattle.lexer.specs.Text.{ascii}
 use Rattle.house_text.specs.Spelling.{house}
 use Rattle.reader.specs.Reader.{ReadOutcome, answerTo}
 
--- a card, the answer's number, the root's number (letter times three, and 1 for a sharp, 2 for a flat; 21 for none), the members of N or the
--- errors, and the house spelling where the paper has it
+-- a card, the answer's number, the root's number (letter times three, and 1 for a sharp, 2 for a flat; 21 for none), the members of N or
+-- the errors, and the house spelling where the paper has it
 pub record Specimen : Type 0 where
   pub card : List ℕ
   pub number : ℕ

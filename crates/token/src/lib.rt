@@ -126,7 +126,8 @@ pub fn put(
     len: u16,
 )
     requires { ⌜ Room (at + 1) (now kinds) (now poss) (now lens) ⌝ }
-    ensures { λ _. ⌜ rows (now (kinds .exit)) (now (poss .exit)) (now (lens .exit)) ≡ set (rows (now (kinds .entry)) (now (poss .entry)) (now (lens .entry))) at (tokenOf kind pos len) ⌝ }
+    ensures { λ _. ⌜ rows (now (kinds .exit)) (now (poss .exit)) (now (lens .exit)) ≡ set
+        (rows (now (kinds .entry)) (now (poss .entry)) (now (lens .entry))) at (tokenOf kind pos len) ⌝ }
 {
     kinds[at] = kind;
     poss[at] = pos;
@@ -136,7 +137,9 @@ pub fn put(
 // Puts the token of place `from` at place `to` too.
 pub fn copy(kinds: &mut [u8], poss: &mut [u16], lens: &mut [u16], to: usize, from: usize)
     requires { ⌜ Room (to + 1) (now kinds) (now poss) (now lens) × Room (from + 1) (now kinds) (now poss) (now lens) ⌝ }
-    ensures { λ _. ⌜ (let R = rows (now (kinds .entry)) (now (poss .entry)) (now (lens .entry)) in rows (now (kinds .exit)) (now (poss .exit)) (now (lens .exit)) ≡ set R to (tokenAt R from)) ⌝ }
+    ensures { λ _. ⌜
+        (let R = rows (now (kinds .entry)) (now (poss .entry)) (now (lens .entry)) in rows (now (kinds .exit)) (now (poss .exit))
+        (now (lens .exit)) ≡ set R to (tokenAt R from)) ⌝ }
 {
     let kind = kinds[from];
     let pos = poss[from];

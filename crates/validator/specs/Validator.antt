@@ -37,7 +37,8 @@ allFrom f (suc n) i = f i ++ allFrom f n (suc i)
 -- `isvalid` of Add and of Omit: what they may name
 abbrev pub addTargets : List ℕ
 addTargets =
-    majorSecond ∷ majorThird ∷ perfectFourth ∷ minorSixth ∷ majorSixth ∷ majorSeventh ∷ flatNinth ∷ ninth ∷ sharpNinth ∷ eleventh ∷ sharpEleventh ∷ flatThirteenth ∷ thirteenth ∷ []
+    majorSecond ∷ majorThird ∷ perfectFourth ∷ minorSixth ∷ majorSixth ∷ majorSeventh ∷ flatNinth ∷ ninth ∷ sharpNinth ∷ eleventh
+    ∷ sharpEleventh ∷ flatThirteenth ∷ thirteenth ∷ []
 
 abbrev pub omitTargets : List ℕ
 omitTargets = majorThird ∷ perfectFifth ∷ []

@@ -168,7 +168,8 @@ pub(crate) fn validate_extensions(
     n: usize,
 ) -> usize
     requires { ⌜ 4 * n + 32 ≤ length (now errs) ⌝ }
-    ensures { λ r. ⌜ Wrote n r (extensionErrors (map expOf (now (exps .entry))) (members set)) (now (errs .entry)) (now (errs .exit)) × (r ≤ n + 8) ⌝ }
+    ensures { λ r. ⌜ Wrote n r (extensionErrors (map expOf (now (exps .entry))) (members set)) (now (errs .entry)) (now (errs .exit))
+        × (r ≤ n + 8) ⌝ }
 {
     let f = first_fault(exps);
     if f.is_some() {

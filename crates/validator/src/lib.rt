@@ -22,7 +22,8 @@ mod semitones;
 // The errors of the expressions and of the set that they make, written from the beginning of the list on; their number is returned.
 pub fn validate(exps: &[u32], set: IntervalSet, errs: &mut [u16]) -> usize
     requires { ⌜ (length (now exps) ≤ 257) × (1028 ≤ length (now errs)) ⌝ }
-    ensures { λ r. ⌜ Wrote 0 r (validationOf (map expOf (now (exps .entry))) (members set)) (now (errs .entry)) (now (errs .exit)) × (r ≤ 21) ⌝ }
+    ensures { λ r. ⌜ Wrote 0 r (validationOf (map expOf (now (exps .entry))) (members set)) (now (errs .entry)) (now (errs .exit))
+        × (r ≤ 21) ⌝ }
 {
     let a = validate_expressions(exps, errs, 0);
     let b = validate_extensions(exps, set, errs, a);
