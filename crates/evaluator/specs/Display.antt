@@ -1,6 +1,6 @@
 -- The display list (`set_intervals`): the members sorted by semitones, with the second or fourth that a sus shows in its place.
 use mathlib.Core.Bool.{cond, _&&_}
-use mathlib.Core.List.{List, [], _∷_, map}
+use mathlib.Core.List.{List, [], _∷_}
 use Prim.Native.Nat.{ℕ}
 use lib.Dec.{eqb, leb}
 use Rattle.chord.specs.Interval.{Set, augmentedFourth, flatNinth, majorSecond, minorSecond, ninth, semitones, sharpEleventh}

@@ -1,7 +1,7 @@
 -- Where the expressions are allowed: of what the parser gives, each is `Sound` (`expressions-sound` of the parser), and if validation found no
 -- wrong target, each Add and Omit names what it may. One expression at a time, then the list.
 -- Assumes nothing.
-use mathlib.Core.Bool.{Bool, true, false, not, _&&_}
+use mathlib.Core.Bool.{Bool, true, false, not}
 use mathlib.Core.List.{List, [], _∷_}
 use mathlib.Core.Path.{_≡_, refl, sym, subst}
 use Prim.Native.Nat.{ℕ}

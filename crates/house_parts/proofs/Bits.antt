@@ -5,16 +5,16 @@
 use mathlib.Core.Bool.{Bool, true, false, not, _&&_, _||_, cond, and-true, and-false}
 use mathlib.Core.List.{List, [], _∷_}
 use mathlib.Core.Path.{_≡_, refl, sym, _∙_, ap, ap₂, fun-ext}
-use Prim.Native.Nat.{ℕ, zero, suc, max}
+use Prim.Native.Nat.{ℕ, max}
 use native.Mathlib.Omega.{arith}
-use lib.Dec.{T, eqb, leb, eqb→eq}
+use lib.Dec.{T, eqb, eqb→eq}
 use Rattle.chord.specs.Interval.{Set, empty, insert, remove, removeThenAdd}
 use Rattle.evaluator.specs.Evaluator.{foldLeft, any, elem, direct, alter, omit, add, alterBy, omitBy, addBy, altsOf, omitsOf, addsOf, removeThirds, extOf, extAt, formOf, formAt, transition, isMajor, applyForm, applySus, prune6, prune11, evalSet, isSus4, isMaj, seed, implied, baseForm}
 use Rattle.evaluator.specs.declared.ast.BaseForm.the-variants as form
 use Rattle.evaluator.specs.declared.ast.BaseForm.{BaseForm}
 use Rattle.expression.specs.declared.expression.Exp.the-variants.{Power, Bass, Maj, Maj7, Minor, HalfDim, Dim, Dim7, Alt, Aug, Sus, Extension, Add, Omit, SlashBass}
 use Rattle.expression.specs.declared.expression.Exp.{Exp}
-use Rattle.house_parts.specs.House.{Part, part, given, select}
+use Rattle.house_parts.specs.House.{Part, part, select}
 use Rattle.house_parts.proofs.Bools.{law, every, _≈_, and-left, and-right}
 
 abbrev pub full : Set

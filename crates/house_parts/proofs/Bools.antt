@@ -2,7 +2,7 @@
 -- pass then l ≡ r. antt computes the 2^n cases. `tt` is refused where a case fails.
 -- Assumes nothing.
 use mathlib.Core.Path.{_≡_, refl}
-use mathlib.Core.Bool.{Bool, true, false, not, _&&_, _||_, Bool·beq}
+use mathlib.Core.Bool.{Bool, true, false, _&&_, Bool·beq}
 use Prim.Native.Nat.{ℕ, zero, suc}
 use lib.Dec.{T}
 use Rattle.house_parts.specs.Question.{_⇒_}

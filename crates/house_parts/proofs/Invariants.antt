@@ -2,8 +2,8 @@
 -- keeps it is a computed test over all expressions, base forms and values of these members.
 -- Assumes nothing.
 use mathlib.Core.Bool.{Bool, true, false, not, _&&_, _||_, cond, or-false}
-use mathlib.Core.List.{List, [], _∷_, map}
-use mathlib.Core.Path.{_≡_, refl, sym, _∙_, ap, ap₂, subst, fun-ext}
+use mathlib.Core.List.{List, [], _∷_}
+use mathlib.Core.Path.{_≡_, refl, sym, _∙_, ap, ap₂, subst}
 use Prim.Native.Nat.{ℕ, zero, suc, _<_}
 use native.Mathlib.Nat.{not-suc-le-zero, le-of-suc-le-suc}
 use lib.Dec.{T, eqb, ltb, ltb→lt}
@@ -12,7 +12,7 @@ use Rattle.chord.specs.Interval.{Set, empty, insert, remove, removeThenAdd}
 use Rattle.chord.specs.Note.{noteOf}
 use Rattle.chord.specs.declared.note.Note.{Note}
 use Rattle.evaluator.specs.Display.{firstSus, susOf}
-use Rattle.evaluator.specs.Evaluator.{foldLeft, any, direct, alter, omit, add, alterBy, omitBy, addBy, applyForm, applySus, imply, imply7, imply9, imply11, implied, prune6, prune11, evalSet, seed, maxExt, baseForm, isMajor, isMaj, isSus4, removeThirds}
+use Rattle.evaluator.specs.Evaluator.{foldLeft, any, direct, alterBy, omitBy, addBy, applyForm, applySus, imply, imply7, imply9, imply11, implied, prune6, prune11, evalSet, seed, maxExt, baseForm, isMajor, isMaj, isSus4, removeThirds}
 use Rattle.evaluator.specs.declared.ast.BaseForm.the-variants as form
 use Rattle.evaluator.specs.declared.ast.BaseForm.{BaseForm}
 use Rattle.expression.specs.declared.expression.Exp.the-variants.{Power, Bass, Maj, Maj7, Minor, HalfDim, Dim, Dim7, Alt, Aug, Sus, Extension, Add, Omit, SlashBass}
@@ -24,7 +24,7 @@ use Rattle.house_parts.specs.declared.kind.SusKind.{SusKind}
 use Rattle.house_parts.specs.Question.{_⇒_}
 use Rattle.house_parts.proofs.Struct.{Struct, allowed, allows}
 use Rattle.house_parts.proofs.Bits.{Bitwise, full, bw-id, bw-insert, bw-remove, bw-replace, bw-remove2, bw-then, bw-direct, bw-alterBy, bw-omitBy, bw-addBy, prune6At, prune11At, prune-at}
-use Rattle.house_parts.proofs.Bools.{law, _≈_, _⊃_, and-left, and-right, mp}
+use Rattle.house_parts.proofs.Bools.{and-left, and-right, mp}
 
 -- ---- a test at each list of k Booleans
 abbrev everyL : ℕ → (List Bool → Bool) → Bool

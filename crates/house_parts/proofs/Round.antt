@@ -1,7 +1,7 @@
 -- The set of the spelled expressions is the set that was spelled, where the clauses hold and the two thirds are not both there. Member by
 -- member: at a written-out member `evalParts` is a Boolean expression in a few members of N, and `law` computes all their values.
 -- Assumes nothing.
-use mathlib.Core.Bool.{Bool, true, false, not, _&&_, _||_, cond}
+use mathlib.Core.Bool.{Bool, false, not, _&&_, cond}
 use mathlib.Core.List.{List, [], _∷_}
 use mathlib.Core.Path.{_≡_, refl, sym, _∙_, ap, subst}
 use Prim.Native.Nat.{ℕ, zero, suc, _<_}

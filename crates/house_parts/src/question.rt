@@ -1,6 +1,6 @@
 // Has some accepted text exactly a record's four? A root, no members outside the table, the clauses of its set and K, validation's own test
 // of the set, and the display list that they give.
-ghost use mathlib.Core.Bool.{true, not, _&&_};
+ghost use mathlib.Core.Bool.{true};
 ghost use mathlib.Core.Path.{_≡_};
 ghost use Prim.Native.Nat.{_<_};
 ghost use lib.ListN.{getD};

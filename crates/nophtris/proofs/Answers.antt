@@ -2,7 +2,7 @@
 -- Assumes nothing.
 use mathlib.Core.Bool.{Bool, true, false, cond, _||_}
 use mathlib.Core.List.{List, _++_, append-nil}
-use mathlib.Core.Option.{Option, none, some}
+use mathlib.Core.Option.{none, some}
 use mathlib.Core.Path.{_≡_, refl, sym, ap, _∙_, subst}
 use Prim.Native.Nat.{ℕ, _≤_, _<_}
 use native.Mathlib.Omega.{arith}
@@ -22,7 +22,7 @@ use Rattle.writer.specs.Writer as writer
 use Rattle.writer.specs.Writer.{WriteOutcome, lengthOf, numberOf, refused, writeOf}
 use Rattle.writer.specs.declared.Answer.{Answer as Written}
 use Rattle.nophtris.proofs.Bytes.{chord-length}
-use Rattle.nophtris.specs.Boundary.{answerTo, chordAfter, chordBytes, countAfter, fourIn, inside, lengthAfter, valuesIn, writeIn}
+use Rattle.nophtris.specs.Boundary.{answerTo, chordBytes, fourIn, inside, lengthAfter, valuesIn, writeIn}
 use Rattle.nophtris.specs.State.{GaveRead, GaveWritten}
 
 -- ---- reading

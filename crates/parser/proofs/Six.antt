@@ -2,14 +2,13 @@
 use mathlib.Core.Bool.{Bool, false, _&&_}
 use mathlib.Core.List.{List, [], _∷_, _++_, map}
 use mathlib.Core.Path.{_≡_, refl, sym, ap, _∙_}
-use Prim.Native.Nat.{ℕ, zero, suc, _-_, _≤_, _<_, _/_, _%_}
+use Prim.Native.Nat.{ℕ, zero, suc, _-_, _≤_, _/_, _%_}
 use native.Mathlib.Omega.{arith}
 use lib.Dec.{eqb}
 use lib.ListN.{length, take, getD}
 use lib.Seq.{take-suc}
 use borrow.Author.Tests.{ne-eqb}
 use Rattle.expression.specs.Expression.{expBy, expOf}
-use Rattle.expression.specs.declared.expression.Exp.{Exp}
 use Rattle.parser.specs.Parser.{isSix, lastSix}
 use Rattle.parser.specs.State.{expsOf}
 

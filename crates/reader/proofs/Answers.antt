@@ -2,12 +2,11 @@
 -- reading goes by these. Assumes nothing.
 use mathlib.Core.Bool.{Bool, true, false, cond}
 use mathlib.Core.List.{List, [], _∷_}
-use mathlib.Core.Path.{_≡_, refl, ap, _∙_}
+use mathlib.Core.Path.{_≡_, refl, ap}
 use Prim.Native.Nat.{ℕ, _≤_, _<_}
 use lib.Dec.{ltb}
 use lib.ListN.{length}
 use borrow.Author.Tests.{le-ltb, lt-ltb, ltb-false, ltb-true}
-use Rattle.chord.specs.declared.note.OptionalNote.{OptionalNote}
 use Rattle.evaluator.specs.Evaluator.{evalSet}
 use Rattle.expression.specs.declared.expression.Exp.{Exp}
 use Rattle.parser.specs.Parser.{parseOf, rootOf}

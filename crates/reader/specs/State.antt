@@ -6,7 +6,7 @@ use lib.ListN.{drop, length, take}
 use Rattle.chord.specs.Chord.{fourOf, recordOf}
 use Rattle.folding.specs.Folding.{preProcess}
 use Rattle.lexer.specs.Lexer.{tokensOf}
-use Rattle.token.specs.Token.{Ranged, Room, Token, rows}
+use Rattle.token.specs.Token.{Ranged, Room, rows}
 use Rattle.reader.specs.Reader.{ReadOutcome, countOf, numberOf, readOf}
 use Rattle.reader.specs.declared.Reading.{Reading}
 

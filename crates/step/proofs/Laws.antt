@@ -15,7 +15,7 @@ use Rattle.lookahead.specs.declared.Next.{Next}
 use Rattle.token.specs.declared.TokenType.the-variants as type
 use Rattle.token.specs.declared.TokenType.{TokenType}
 use Rattle.step.proofs.Count.{near}
-use Rattle.step.specs.{Bounds.Small, Bounds.Sound, Bounds.SoundGains, Bounds.susBit, Context.memberOf, Context.onComma, Context.startGroup, Effect.taking, Effect.within, Interval.intervalOf, Interval.rowOf}
+use Rattle.step.specs.{Bounds.Small, Bounds.Sound, Bounds.SoundGains, Bounds.susBit, Context.memberOf, Context.onComma, Context.startGroup, Effect.taking, Effect.within, Interval.intervalOf, Interval.intervalsBy}
 use Rattle.lookahead.specs.Next.{isEnd, isMaj7, isNumber, isSign, noteFrom, numberIn, signIn}
 use Rattle.step.specs.Step.{addInterval, addSigned, addTarget, insideOf, intervalAlone, isPower, thenEnd, modifierStep, noteStep, omitTarget, placed, sixNine, stepOf, susAllows}
 use Rattle.step.specs.declared.context.Context.the-variants as context
@@ -45,8 +45,8 @@ entry-most (x ∷ xs) (suc n) = omega (arith, entry-most xs n)
 -- that of each row is 23, so an interval that is not 23 is below it
 below : (m : RootModifier) (n : ℕ) → eqb (intervalOf m n) 23 ≡ false → intervalOf m n < 23
 below m n e =
-    let t : largest (rowOf m) ≡ 23 = elim m [ Natural ↦ refl | Sharp ↦ refl | Flat ↦ refl ] in
-    let l : intervalOf m n ≤ 23 = choice (λ (i : ℕ). i ≤ 23) (ltb n 14) (omega (arith, entry-most (rowOf m) n)) (omega arith) in
+    let t : largest (intervalsBy m) ≡ 23 = elim m [ Natural ↦ refl | Sharp ↦ refl | Flat ↦ refl ] in
+    let l : intervalOf m n ≤ 23 = choice (λ (i : ℕ). i ≤ 23) (ltb n 14) (omega (arith, entry-most (intervalsBy m) n)) (omega arith) in
     omega (arith, eqb-false (intervalOf m n) 23 e)
 
 -- an interval that sus does not take is not #4

@@ -9,17 +9,17 @@ use Prim.Native.Nat.{ℕ, _+_, _*_, _/_, _≤_, _<_}
 use native.Mathlib.Omega.{arith}
 use lib.Dec.{T, eqb, ltb, ltb→lt}
 use lib.ListN.{List·getD-append, drop, getD, length, length-append, length-drop}
-use borrow.Author.Tests.{eqb-false, ne-eqb}
+use borrow.Author.Tests.{ne-eqb}
 use Rattle.chord.specs.Chord.{Four, fourOf, noChord, recordOf}
 use Rattle.chord.specs.declared.note.Note.{Note}
 use Rattle.chord.specs.declared.note.OptionalNote.the-variants.{Some}
 use Rattle.house_parts.proofs.Bools.{and-left, and-right}
-use Rattle.nophtris.specs.Boundary.{chordAfter, chordBytes, countAfter, fourIn}
+use Rattle.nophtris.specs.Boundary.{chordBytes, countAfter, fourIn}
 use Rattle.nophtris.specs.State as C
 use Rattle.parser.specs.Parser.{parseOf}
 use Rattle.house_text.proofs.Realized.{accepted-realizable}
 use Rattle.reader.proofs.Answers.{Asked, Way, accept, asked-first, bytes, enough, long, long-list, parse, short, validation, way}
-use Rattle.reader.specs.Reader.{IsAccepted, ReadOutcome, answerTo, countOf, numberOf, readOf, tokensIn}
+use Rattle.reader.specs.Reader.{IsAccepted, ReadOutcome, countOf, numberOf, readOf, tokensIn}
 use Rattle.reader.specs.State.{Read}
 use Rattle.reader.specs.declared.Answer.the-variants.{Accepted, LongText, NotUtf8, Parse, ShortList, Validation}
 use Rattle.reader.specs.declared.Answer.{Answer}
@@ -27,7 +27,7 @@ use Rattle.reader.specs.declared.Reading.{Reading}
 use Rattle.theorems.proofs.Counts.{tokens-most}
 use Rattle.theorems.proofs.Decoding.{decoded, fifty-one-bytes}
 use Rattle.theorems.proofs.Errors as errors
-use Rattle.theorems.proofs.Errors.{Rows, occurs, parse-errors, row-at, rows-four, validation-errors}
+use Rattle.theorems.proofs.Errors.{occurs, parse-errors, row-at, rows-four, validation-errors}
 use Rattle.theorems.specs.CReading as C-reading
 use Rattle.theorems.specs.Reading.{Errors, Numbered, ReadApart, ReadErrors, ReadNumbered, ReadRecord, ReadUntouched, errorsOf, fourOfText, parseErrors, validationErrors}
 use Rattle.utf8.proofs.Laws.{well-formed-is}

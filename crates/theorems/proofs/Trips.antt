@@ -1,7 +1,6 @@
 -- Read then write, write then read, in Rattle's terms and in C's: what is written is the house spelling of the four, which is accepted
 -- with them. Assumes nothing.
 use mathlib.Core.List.{List}
-use mathlib.Core.Logic.{_↔_}
 use mathlib.Core.Option.{Option, none, some}
 use mathlib.Core.Path.{_≡_, refl, sym, ap, subst, _∙_}
 use Prim.Native.Nat.{ℕ, _≤_}
@@ -23,9 +22,9 @@ use Rattle.theorems.proofs.Writings.{c-write-numbered, c-write-zero, sp
 use Rattle.theorems.specs.CTrips as C-trips
 use Rattle.theorems.specs.Reading.{fourOfText}
 use Rattle.theorems.specs.Trips.{AnyWrittenThenRead, ReadAndWritten, ReadThenWrite, SameSpelling, WriteThenRead}
-use Rattle.theorems.specs.Writing.{NoText, Numbered, Spelled}
+use Rattle.theorems.specs.Writing.{NoText, Spelled}
 use Rattle.writer.specs.State.{Written}
-use Rattle.writer.specs.Writer.{HasText, lengthOf, numberOf}
+use Rattle.writer.specs.Writer.{lengthOf, numberOf}
 use Rattle.writer.specs.declared.Answer.{Answer}
 
 -- the house spelling of an accepted text is accepted with its four

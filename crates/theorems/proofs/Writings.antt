@@ -1,13 +1,13 @@
 -- Writings: the two questions in their order, by the writer's way back from an outcome; then what `Written` of the writer and `Write` of
 -- the C boundary say of it. What a test decides is whether there is a text. Assumes nothing.
-use mathlib.Core.Bool.{Bool, true, false, true≢false, cond, _&&_}
+use mathlib.Core.Bool.{Bool, true, true≢false, cond, _&&_}
 use mathlib.Core.List.{List, [], _++_}
 use mathlib.Core.Logic.{_↔_}
-use mathlib.Core.Option.{Option, none, some}
+use mathlib.Core.Option.{Option, some}
 use mathlib.Core.Path.{_≡_, refl, sym, ap, subst, _∙_}
-use Prim.Native.Nat.{ℕ, _+_, _≤_, _<_}
+use Prim.Native.Nat.{ℕ, _+_, _≤_}
 use native.Mathlib.Omega.{arith}
-use lib.Dec.{eqb, ltb}
+use lib.Dec.{eqb}
 use lib.ListN.{drop, getD, length, length-append, length-drop, take}
 use lib.Seq.{take-append-seam}
 use borrow.Author.Tests.{le-ltb, ne-eqb}
@@ -15,7 +15,7 @@ use Rattle.chord.specs.Chord.{Four, fourOf}
 use Rattle.chord.specs.declared.Chord.{Chord}
 use Rattle.house_parts.specs.Question.{realizable}
 use Rattle.nophtris.proofs.Answers as C-answers
-use Rattle.nophtris.specs.Boundary.{fourIn, lengthAfter, valuesIn, writeIn}
+use Rattle.nophtris.specs.Boundary.{fourIn, valuesIn, writeIn}
 use Rattle.nophtris.specs.State as C
 use Rattle.house_text.proofs.Length.{house-length}
 use Rattle.house_text.proofs.Realized.{Narrow, accepted-realizable, some-text, spelling-realizes}
@@ -25,8 +25,7 @@ use Rattle.theorems.proofs.Readings.{no, yes}
 use Rattle.theorems.specs.CWriting as C-writing
 use Rattle.theorems.specs.Writing.{NoText, Numbered, Spelled, WriteApart, WriteNumbered, WriteSpelled, WriteUntouched}
 use Rattle.writer.proofs.Answers.{Asked, Way, asked-first, decided, enough, has, lacks, short, way}
-use Rattle.writer.specs.State.{Written}
-use Rattle.writer.specs.Writer.{HasText, WriteOutcome, answerTo, lengthOf, numberOf, refused, spelled, writeOf}
+use Rattle.writer.specs.Writer.{HasText, WriteOutcome, answerTo, lengthOf, numberOf, spelled, writeOf}
 use Rattle.writer.specs.declared.Answer.the-variants as answer
 use Rattle.writer.specs.declared.Answer.{Answer}
 

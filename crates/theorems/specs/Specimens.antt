@@ -1,5 +1,5 @@
 -- The card specimens of document 01 that have a star: one table of what is read and spelled, and one statement for all of it.
-use mathlib.Core.Bool.{Bool, cond}
+use mathlib.Core.Bool.{cond}
 use mathlib.Core.List.{List, [], _∷_, _++_, map}
 use mathlib.Core.Path.{_≡_}
 use Prim.Native.Nat.{ℕ, zero, suc}

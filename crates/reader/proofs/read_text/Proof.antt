@@ -4,7 +4,7 @@ use Rattle.reader.proofs.Judge.{as-tokens}
 use Rattle.reader.proofs.read_text.Statement.{statement}
 use borrow.Author.Needs.{needs}
 use lib.Seq.{length-take-le}
-use mathlib.Core.Path.{_∙_, _≡_, sym}
+use mathlib.Core.Path.{_∙_, sym}
 use native.Mathlib.Omega.{arith}
 use Rattle.reader.proofs.read_text.Tie as tie
 

@@ -8,7 +8,7 @@ use Rattle.token.proofs.Ranges.{ranged-wider}
 use Rattle.token.specs.Token.{Ranged, rows}
 use borrow.Author.Needs.{needs}
 use lib.ListN.{length, take}
-use mathlib.Core.Path.{_∙_, _≡_, ap, subst, sym}
+use mathlib.Core.Path.{_∙_, ap, subst, sym}
 use native.Mathlib.Nat.{le-trans}
 use native.Mathlib.Omega.{arith}
 use Rattle.reader.proofs.tokenize.Tie as tie

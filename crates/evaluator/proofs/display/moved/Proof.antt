@@ -2,7 +2,6 @@
 use Rattle.evaluator.proofs.display.moved.Statement.{statement}
 use borrow.Author.Needs.{needs}
 use borrow.Author.Tests.{eq-eqb, le-leb, lt-leb, ne-eqb}
-use mathlib.Core.Path.{_∙_, _≡_}
 use Rattle.evaluator.proofs.display.moved.Tie as tie
 
 returns : tie.Need-returns

@@ -2,7 +2,7 @@
 use Rattle.evaluator.proofs.Shown.{at-flat2, at-plain, at-second, at-sharp4}
 use Rattle.evaluator.proofs.display.order_at.Statement.{statement}
 use borrow.Author.Needs.{needs}
-use mathlib.Core.Path.{_∙_, _≡_}
+use mathlib.Core.Path.{_∙_}
 use native.Mathlib.Omega.{arith}
 use Rattle.evaluator.proofs.display.order_at.Tie as tie
 

@@ -1,7 +1,6 @@
 -- By the sus, and by the interval that it shows.
 use Rattle.evaluator.proofs.display.shown.Statement.{statement}
 use borrow.Author.Tests.{ne-eqb}
-use mathlib.Core.Path.{_∙_, _≡_}
 use Rattle.evaluator.proofs.display.shown.Tie as tie
 
 returns : tie.Need-returns

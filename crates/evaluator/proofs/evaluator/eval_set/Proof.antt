@@ -4,7 +4,6 @@ use Rattle.evaluator.proofs.evaluator.eval_set.Statement.{statement}
 use Rattle.expression.specs.Expression.{expOf}
 use borrow.Author.Needs.{needs}
 use mathlib.Core.List.{map}
-use mathlib.Core.Path.{_∙_, _≡_}
 use Rattle.evaluator.proofs.evaluator.eval_set.Tie as tie
 
 apply-requires : tie.Need-apply-requires

@@ -1,9 +1,7 @@
 -- Each field by the call that makes it.
 use Rattle.evaluator.proofs.evaluator.evaluate_expression.Statement.{statement}
 use borrow.Author.Needs.{needs}
-use mathlib.Core.Path.{_∙_, _≡_}
 use Rattle.evaluator.proofs.evaluator.evaluate_expression.Tie as tie
-use Rattle.evaluator.proofs.stages.is_sus4.Reads as is-sus4-reads
 
 direct-requires : tie.Need-direct-requires
 direct-requires c κs = search needs

@@ -1,5 +1,5 @@
 -- From the last expression to the first, each one overwrites those behind it.
-use Prim.Native.Nat.{_+_, _-_, _≤_, suc, ℕ}
+use Prim.Native.Nat.{_-_, _≤_, suc, ℕ}
 use Rattle.evaluator.proofs.Walks.{from, from-none, sus-turn}
 use Rattle.evaluator.proofs.evaluator.first_sus.Statement.{statement}
 use Rattle.evaluator.specs.Display.{firstSus, susOf}

@@ -1,7 +1,7 @@
 -- The seed is the three intervals, inserted.
 use Rattle.evaluator.proofs.evaluator.seed_defaults.Statement.{statement}
 use borrow.Author.Needs.{needs}
-use mathlib.Core.Path.{_∙_, _≡_, refl}
+use mathlib.Core.Path.{refl}
 use Rattle.evaluator.proofs.evaluator.seed_defaults.Tie as tie
 
 new-requires : tie.Need-new-requires

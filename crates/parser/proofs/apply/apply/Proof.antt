@@ -2,7 +2,6 @@
 use Rattle.parser.proofs.Effects.{count-back, did-effect}
 use Rattle.parser.proofs.apply.apply.Statement.{statement}
 use borrow.Author.Needs.{needs}
-use mathlib.Core.Path.{_∙_}
 use native.Mathlib.Omega.{arith}
 use Rattle.parser.proofs.apply.apply.Tie as tie
 

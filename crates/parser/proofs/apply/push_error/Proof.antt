@@ -3,7 +3,7 @@ use Rattle.parser.proofs.Lists.{stored-none, stored-one}
 use Rattle.parser.proofs.apply.push_error.Statement.{statement}
 use Rattle.parser.specs.Parser.{errorOf}
 use borrow.Author.Needs.{needs}
-use mathlib.Core.Path.{_∙_, ap, refl}
+use mathlib.Core.Path.{ap, refl}
 use Rattle.parser.proofs.apply.push_error.Tie as tie
 
 enum-told : tie.Need-enum-told

@@ -2,7 +2,6 @@
 use Rattle.parser.proofs.Lists.{gained-one}
 use Rattle.parser.proofs.apply.push_exp.Statement.{statement}
 use borrow.Author.Needs.{needs}
-use mathlib.Core.Path.{_∙_}
 use Rattle.parser.proofs.apply.push_exp.Tie as tie
 
 number-requires : tie.Need-number-requires

@@ -4,7 +4,7 @@ use Rattle.parser.proofs.apply.push_exps.Statement.{statement}
 use Rattle.parser.specs.Parser.{gainsOf}
 use Rattle.step.specs.Bounds.{gainsCount}
 use borrow.Author.Needs.{needs}
-use mathlib.Core.Path.{_∙_, ap}
+use mathlib.Core.Path.{ap}
 use native.Mathlib.Omega.{arith}
 use Rattle.parser.proofs.apply.push_exps.Tie as tie
 

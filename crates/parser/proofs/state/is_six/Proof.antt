@@ -2,7 +2,6 @@
 use Rattle.parser.proofs.Six.{six-of}
 use Rattle.parser.proofs.state.is_six.Statement.{statement}
 use borrow.Author.Tests.{ne-eqb}
-use mathlib.Core.Path.{_∙_, _≡_}
 use Rattle.parser.proofs.state.is_six.Tie as tie
 
 returns : tie.Need-returns

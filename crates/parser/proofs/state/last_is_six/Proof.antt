@@ -2,7 +2,7 @@
 use Rattle.parser.proofs.Six.{last-six-at, none-six}
 use Rattle.parser.proofs.state.last_is_six.Statement.{statement}
 use borrow.Author.Needs.{needs}
-use mathlib.Core.Path.{_∙_, _≡_, sym}
+use mathlib.Core.Path.{_∙_, sym}
 use Rattle.parser.proofs.state.last_is_six.Tie as tie
 
 returns : tie.Need-returns

@@ -2,7 +2,7 @@
 use Rattle.parser.proofs.Rows.{next-none}
 use Rattle.parser.proofs.state.next_at.Statement.{statement}
 use borrow.Author.Needs.{needs}
-use mathlib.Core.Path.{_∙_, _≡_, sym}
+use mathlib.Core.Path.{sym}
 use Rattle.parser.proofs.state.next_at.Tie as tie
 
 returns : tie.Need-returns

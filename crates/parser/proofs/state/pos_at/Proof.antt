@@ -2,7 +2,7 @@
 use Rattle.parser.proofs.state.pos_at.Statement.{statement}
 use borrow.Author.Needs.{needs}
 use lib.ListN.{List·getD-eq-default}
-use mathlib.Core.Path.{_∙_, _≡_, sym}
+use mathlib.Core.Path.{sym}
 use Rattle.parser.proofs.state.pos_at.Tie as tie
 
 returns : tie.Need-returns
