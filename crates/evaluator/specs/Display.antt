@@ -4,26 +4,12 @@ use mathlib.Core.List.{List, [], _∷_}
 use Prim.Native.Nat.{ℕ}
 use lib.Dec.{eqb, leb}
 use Rattle.chord.specs.Interval.{Set, augmentedFourth, flatNinth, majorSecond, minorSecond, ninth, semitones, sharpEleventh}
-use Rattle.expression.specs.declared.expression.Exp.the-variants.{Power, Bass, Maj, Maj7, Minor, HalfDim, Dim, Dim7, Alt, Aug, Sus, Extension, Add, Omit, SlashBass}
+use Rattle.expression.specs.Expression.{onSus}
 use Rattle.expression.specs.declared.expression.Exp.{Exp}
 
 -- the interval of the first Sus; k where there is none
 abbrev pub susOf : Exp → ℕ → ℕ
-susOf Power k = k
-susOf Bass k = k
-susOf Maj k = k
-susOf Maj7 k = k
-susOf Minor k = k
-susOf HalfDim k = k
-susOf Dim k = k
-susOf Dim7 k = k
-susOf Alt k = k
-susOf Aug k = k
-susOf (Sus x) k = x
-susOf (Extension x p) k = k
-susOf (Add x p) k = k
-susOf (Omit x p) k = k
-susOf (SlashBass n) k = k
+susOf e k = onSus k (λ x. x) e
 
 abbrev pub firstSus : List Exp → ℕ
 firstSus [] = 0

@@ -7,6 +7,7 @@ use lib.Dec.{eqb, leb}
 use Rattle.chord.specs.Interval.{Set, empty, insert, remove, removeThenAdd, unison, minorSecond, majorSecond, minorThird, majorThird, perfectFourth, augmentedFourth, diminishedFifth, perfectFifth, augmentedFifth, minorSixth, majorSixth, diminishedSeventh, minorSeventh, majorSeventh, flatNinth, ninth, sharpNinth, eleventh, sharpEleventh, flatThirteenth, thirteenth}
 use Rattle.chord.specs.declared.note.OptionalNote.the-variants as optional
 use Rattle.chord.specs.declared.note.OptionalNote.{OptionalNote}
+use Rattle.expression.specs.Expression.{onAdd, onExtension, onSlashBass, onSus}
 use Rattle.expression.specs.declared.expression.Exp.the-variants.{Power, Bass, Maj, Maj7, Minor, HalfDim, Dim, Dim7, Alt, Aug, Sus, Extension, Add, Omit, SlashBass}
 use Rattle.expression.specs.declared.expression.Exp.{Exp}
 use Rattle.evaluator.specs.declared.ast.BaseForm.the-variants as form
@@ -90,39 +91,11 @@ omitsOf (SlashBass n) = []
 
 -- to `adds`
 abbrev pub addsOf : Exp → List ℕ
-addsOf Power = []
-addsOf Bass = []
-addsOf Maj = []
-addsOf Maj7 = []
-addsOf Minor = []
-addsOf HalfDim = []
-addsOf Dim = []
-addsOf Dim7 = []
-addsOf Alt = []
-addsOf Aug = []
-addsOf (Sus x) = []
-addsOf (Extension x p) = []
-addsOf (Add x p) = x ∷ []
-addsOf (Omit x p) = []
-addsOf (SlashBass n) = []
+addsOf e = onAdd [] (λ x p. x ∷ []) e
 
 -- is it a Sus with the fourth, which becomes `sus`; is it Maj or Maj7, as `implied_seventh` asks
 abbrev pub isSus4 : Exp → Bool
-isSus4 Power = false
-isSus4 Bass = false
-isSus4 Maj = false
-isSus4 Maj7 = false
-isSus4 Minor = false
-isSus4 HalfDim = false
-isSus4 Dim = false
-isSus4 Dim7 = false
-isSus4 Alt = false
-isSus4 Aug = false
-isSus4 (Sus x) = eqb x perfectFourth
-isSus4 (Extension x p) = false
-isSus4 (Add x p) = false
-isSus4 (Omit x p) = false
-isSus4 (SlashBass n) = false
+isSus4 e = onSus false (λ x. eqb x perfectFourth) e
 
 abbrev pub isMaj : Exp → Bool
 isMaj Power = false
@@ -143,21 +116,7 @@ isMaj (SlashBass n) = false
 
 -- an extension 9, 11 or 13, else 0; the largest is `max_extension`
 abbrev pub extOf : Exp → ℕ
-extOf Power = 0
-extOf Bass = 0
-extOf Maj = 0
-extOf Maj7 = 0
-extOf Minor = 0
-extOf HalfDim = 0
-extOf Dim = 0
-extOf Dim7 = 0
-extOf Alt = 0
-extOf Aug = 0
-extOf (Sus x) = 0
-extOf (Extension x p) = cond (elem x (ninth ∷ eleventh ∷ thirteenth ∷ [])) x 0
-extOf (Add x p) = 0
-extOf (Omit x p) = 0
-extOf (SlashBass n) = 0
+extOf e = onExtension 0 (λ x p. cond (elem x (ninth ∷ eleventh ∷ thirteenth ∷ [])) x 0) e
 
 -- the base form that it asks for
 abbrev pub formOf : Exp → BaseForm
@@ -179,21 +138,7 @@ formOf (SlashBass n) = form.Major
 
 -- the slash bass that it sets
 abbrev pub bassOf : OptionalNote → Exp → OptionalNote
-bassOf b Power = b
-bassOf b Bass = b
-bassOf b Maj = b
-bassOf b Maj7 = b
-bassOf b Minor = b
-bassOf b HalfDim = b
-bassOf b Dim = b
-bassOf b Dim7 = b
-bassOf b Alt = b
-bassOf b Aug = b
-bassOf b (Sus x) = b
-bassOf b (Extension x p) = b
-bassOf b (Add x p) = b
-bassOf b (Omit x p) = b
-bassOf b (SlashBass n) = optional.Some n
+bassOf b e = onSlashBass b optional.Some e
 
 -- `BaseForm::transition`: the form with the higher `priority` stays
 abbrev pub priority : BaseForm → ℕ

@@ -3,6 +3,7 @@ use mathlib.Core.List.{[], _∷_}
 use Prim.Native.Nat.{ℕ, _+_, _*_, _/_, _%_}
 use lib.ListN.{getD}
 use Rattle.chord.specs.Note.{noteNumber, noteOf}
+use Rattle.chord.specs.declared.note.Note.{Note}
 use Rattle.expression.specs.declared.expression.Exp.the-variants.{Power, Bass, Maj, Maj7, Minor, HalfDim, Dim, Dim7, Alt, Aug, Sus, Extension, Add, Omit, SlashBass}
 use Rattle.expression.specs.declared.expression.Exp.{Exp}
 
@@ -34,3 +35,89 @@ expBy k v p =
 
 unfoldable pub expOf : ℕ → Exp
 expOf n = expBy (n % 16) (n / 16 % 256) (n / 4096 % 65536)
+
+-- f of what an expression of one kind carries; d for every other expression
+abbrev pub onSus {ℓ} : {A : Type ℓ} → A → (ℕ → A) → Exp → A
+onSus d f Power = d
+onSus d f Bass = d
+onSus d f Maj = d
+onSus d f Maj7 = d
+onSus d f Minor = d
+onSus d f HalfDim = d
+onSus d f Dim = d
+onSus d f Dim7 = d
+onSus d f Alt = d
+onSus d f Aug = d
+onSus d f (Sus x) = f x
+onSus d f (Extension x p) = d
+onSus d f (Add x p) = d
+onSus d f (Omit x p) = d
+onSus d f (SlashBass n) = d
+
+abbrev pub onExtension {ℓ} : {A : Type ℓ} → A → (ℕ → ℕ → A) → Exp → A
+onExtension d f Power = d
+onExtension d f Bass = d
+onExtension d f Maj = d
+onExtension d f Maj7 = d
+onExtension d f Minor = d
+onExtension d f HalfDim = d
+onExtension d f Dim = d
+onExtension d f Dim7 = d
+onExtension d f Alt = d
+onExtension d f Aug = d
+onExtension d f (Sus x) = d
+onExtension d f (Extension x p) = f x p
+onExtension d f (Add x p) = d
+onExtension d f (Omit x p) = d
+onExtension d f (SlashBass n) = d
+
+abbrev pub onAdd {ℓ} : {A : Type ℓ} → A → (ℕ → ℕ → A) → Exp → A
+onAdd d f Power = d
+onAdd d f Bass = d
+onAdd d f Maj = d
+onAdd d f Maj7 = d
+onAdd d f Minor = d
+onAdd d f HalfDim = d
+onAdd d f Dim = d
+onAdd d f Dim7 = d
+onAdd d f Alt = d
+onAdd d f Aug = d
+onAdd d f (Sus x) = d
+onAdd d f (Extension x p) = d
+onAdd d f (Add x p) = f x p
+onAdd d f (Omit x p) = d
+onAdd d f (SlashBass n) = d
+
+abbrev pub onOmit {ℓ} : {A : Type ℓ} → A → (ℕ → ℕ → A) → Exp → A
+onOmit d f Power = d
+onOmit d f Bass = d
+onOmit d f Maj = d
+onOmit d f Maj7 = d
+onOmit d f Minor = d
+onOmit d f HalfDim = d
+onOmit d f Dim = d
+onOmit d f Dim7 = d
+onOmit d f Alt = d
+onOmit d f Aug = d
+onOmit d f (Sus x) = d
+onOmit d f (Extension x p) = d
+onOmit d f (Add x p) = d
+onOmit d f (Omit x p) = f x p
+onOmit d f (SlashBass n) = d
+
+abbrev pub onSlashBass {ℓ} : {A : Type ℓ} → A → (Note → A) → Exp → A
+onSlashBass d f Power = d
+onSlashBass d f Bass = d
+onSlashBass d f Maj = d
+onSlashBass d f Maj7 = d
+onSlashBass d f Minor = d
+onSlashBass d f HalfDim = d
+onSlashBass d f Dim = d
+onSlashBass d f Dim7 = d
+onSlashBass d f Alt = d
+onSlashBass d f Aug = d
+onSlashBass d f (Sus x) = d
+onSlashBass d f (Extension x p) = d
+onSlashBass d f (Add x p) = d
+onSlashBass d f (Omit x p) = d
+onSlashBass d f (SlashBass n) = f n

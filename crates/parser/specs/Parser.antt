@@ -8,8 +8,8 @@ use lib.ListN.{drop}
 use Rattle.chord.specs.Interval.{majorSixth}
 use Rattle.chord.specs.declared.note.OptionalNote.the-variants as optional
 use Rattle.chord.specs.declared.note.OptionalNote.{OptionalNote}
+use Rattle.expression.specs.Expression.{onExtension}
 use Rattle.expression.specs.ParserError.{numbersOf}
-use Rattle.expression.specs.declared.expression.Exp.the-variants.{Power, Bass, Maj, Maj7, Minor, HalfDim, Dim, Dim7, Alt, Aug, Sus, Extension, Add, Omit, SlashBass}
 use Rattle.expression.specs.declared.expression.Exp.{Exp}
 use Rattle.expression.specs.declared.parser_error.ParserError.the-variants.{MissingRootNote}
 use Rattle.lookahead.specs.Next.{isSign, nextOf, noteFrom, signIn}
@@ -62,21 +62,7 @@ applied e s =
 
 -- is it the extension 6?
 abbrev pub isSix : Exp → Bool
-isSix Power = false
-isSix Bass = false
-isSix Maj = false
-isSix Maj7 = false
-isSix Minor = false
-isSix HalfDim = false
-isSix Dim = false
-isSix Dim7 = false
-isSix Alt = false
-isSix Aug = false
-isSix (Sus i) = false
-isSix (Extension i p) = eqb i majorSixth
-isSix (Add i p) = false
-isSix (Omit i p) = false
-isSix (SlashBass n) = false
+isSix e = onExtension false (λ i p. eqb i majorSixth) e
 
 -- is the last one the extension 6? b is the answer where there is none
 unfoldable pub lastSix : Bool → List Exp → Bool

@@ -5,6 +5,7 @@ use Prim.Native.Nat.{ℕ, zero, suc, _+_, _%_}
 use lib.Dec.{eqb, ltb}
 use lib.ListN.{getD}
 use Rattle.chord.specs.Interval.{Set, empty, insert, semitones, minorSecond, majorSecond, minorThird, majorThird, perfectFourth, diminishedFifth, perfectFifth, augmentedFifth, minorSixth, majorSixth, diminishedSeventh, majorSeventh, flatNinth, ninth, sharpNinth, eleventh, sharpEleventh, flatThirteenth, thirteenth}
+use Rattle.expression.specs.Expression.{onAdd, onExtension, onOmit}
 use Rattle.expression.specs.ParserError.{numbersOf}
 use Rattle.expression.specs.declared.expression.Exp.the-variants.{Power, Bass, Maj, Maj7, Minor, HalfDim, Dim, Dim7, Alt, Aug, Sus, Extension, Add, Omit, SlashBass}
 use Rattle.expression.specs.declared.expression.Exp.{Exp}
@@ -45,21 +46,9 @@ omitTargets = majorThird ∷ perfectFifth ∷ []
 
 -- `validate` of an expression
 abbrev pub wrongOf : Exp → List ℕ
-wrongOf Power = []
-wrongOf Bass = []
-wrongOf Maj = []
-wrongOf Maj7 = []
-wrongOf Minor = []
-wrongOf HalfDim = []
-wrongOf Dim = []
-wrongOf Dim7 = []
-wrongOf Alt = []
-wrongOf Aug = []
-wrongOf (Sus x) = []
-wrongOf (Extension x p) = []
-wrongOf (Add x p) = only (not (among addTargets x)) (WrongExpressionTarget p)
-wrongOf (Omit x p) = only (not (among omitTargets x)) (WrongExpressionTarget p)
-wrongOf (SlashBass n) = []
+wrongOf e =
+    onAdd (onOmit [] (λ x p. only (not (among omitTargets x)) (WrongExpressionTarget p)) e)
+    (λ x p. only (not (among addTargets x)) (WrongExpressionTarget p)) e
 
 -- `validate_expressions`: the first wrong target
 unfoldable pub firstWrong : List Exp → List ℕ
@@ -98,24 +87,6 @@ repeated l = firstFrom (repeatedAt (timesOf l)) 15 0
 
 abbrev pub expressionErrors : List Exp → List ℕ
 expressionErrors l = orElse (firstWrong l) (repeated l)
-
--- f of an extension's interval and position; d for every other expression
-abbrev pub onExtension : {A : Type 0} → A → (ℕ → ℕ → A) → Exp → A
-onExtension d f Power = d
-onExtension d f Bass = d
-onExtension d f Maj = d
-onExtension d f Maj7 = d
-onExtension d f Minor = d
-onExtension d f HalfDim = d
-onExtension d f Dim = d
-onExtension d f Dim7 = d
-onExtension d f Alt = d
-onExtension d f Aug = d
-onExtension d f (Sus x) = d
-onExtension d f (Extension x p) = f x p
-onExtension d f (Add x p) = d
-onExtension d f (Omit x p) = d
-onExtension d f (SlashBass n) = d
 
 -- `validate_extensions`: intervals that are no extensions, and semitones that an extension before has
 abbrev pub badExtensions : List ℕ
