@@ -3,7 +3,7 @@
 use mathlib.Core.Path.{refl, sym}
 use native.Mathlib.Omega.{arith}
 use borrow.Author.Tests.{le-ltb, lt-ltb}
-use Rattle.lines.proofs.Steps.{took, took-inside}
+use Rattle.lines.proofs.Steps.{took}
 use borrow.Author.Needs.{needs}
 use Rattle.lines.proofs.input.take.Statement.{statement}
 use Rattle.lines.proofs.input.take.Tie as tie
@@ -41,33 +41,34 @@ put-bytes-requires c κs = search needs
 add-t19 : tie.Need-add-t19
 add-t19 c = search needs
 
-sub-t20 : tie.Need-sub-t20
-sub-t20 c = search needs
+add-t20 : tie.Need-add-t20
+add-t20 c = search needs
+
+sub-t21 : tie.Need-sub-t21
+sub-t21 c = search needs
 
 same-length : tie.Need-same-length
 same-length c = search needs
 
 returns : tie.Need-returns
-returns c = (
-  took (c .before .before .before .before .before .before .before .before .before .before .before .before .args .s) _ (c .before .before .before .before .before .before .before .before .before .before .before .before .args .block .now) (c .before .before .before .before .before .before .before .before .before .before .before .before .args .line .now) _ (c .before .before .before .before .before .before .before .before .to-newline .result) (c .before .before .before .before .before .before .kept .result) (c .before .before .before .before .before .before .before .before .before .before .before .before .pre .0)
-      (c .before .before .before .before .before .before .before .before .to-newline .ensures .0) (c .before .before .before .before .before .before .kept .ensures) (c .before .before .before .before .put-bytes .ensures) refl refl (omega arith) (sym (lt-ltb _ _ (c .before .if1 .taken))),
-  took-inside (c .before .before .before .before .before .before .before .before .before .before .before .before .args .s) _ (c .before .before .before .before .before .before .before .before .before .before .before .before .args .block .now) (c .before .before .before .before .before .before .before .before .before .before .before .before .args .line .now) _ (c .before .before .before .before .before .before .before .before .to-newline .result) (c .before .before .before .before .before .before .kept .result) (c .before .before .before .before .before .before .before .before .before .before .before .before .pre .0)
-      (c .before .before .before .before .before .before .before .before .to-newline .ensures .0) (c .before .before .before .before .before .before .kept .ensures) (c .before .before .before .before .put-bytes .ensures) refl refl (omega arith) (sym (lt-ltb _ _ (c .before .if1 .taken))),
-)
+returns c =
+    let a = c .before .before .before .before .before .before .before .before .before .before .before .before .before in
+    took (a .args .s) _ (a .args .block .now) (a .args .line .now) _ (c .before .before .before .before .before .before .before .before .before .to-newline .result) (c .before .before .before .before .before .before .before .kept .result)
+    (c .before .before .before .before .before .before .before .before .before .to-newline .ensures .0) (c .before .before .before .before .before .before .before .kept .ensures) (c .before .before .before .before .before .put-bytes .ensures) refl refl refl
+    (omega arith) (sym (lt-ltb _ _ (c .before .before .if1 .taken)))
 
-sub-t21 : tie.Need-sub-t21
-sub-t21 c = search needs
+sub-t22 : tie.Need-sub-t22
+sub-t22 c = search needs
 
 same-length-2 : tie.Need-same-length-2
 same-length-2 c = search needs
 
 returns-2 : tie.Need-returns-2
-returns-2 c = (
-  took (c .before .before .before .before .before .before .before .before .before .before .before .before .args .s) _ (c .before .before .before .before .before .before .before .before .before .before .before .before .args .block .now) (c .before .before .before .before .before .before .before .before .before .before .before .before .args .line .now) _ (c .before .before .before .before .before .before .before .before .to-newline .result) (c .before .before .before .before .before .before .kept .result) (c .before .before .before .before .before .before .before .before .before .before .before .before .pre .0)
-      (c .before .before .before .before .before .before .before .before .to-newline .ensures .0) (c .before .before .before .before .before .before .kept .ensures) (c .before .before .before .before .put-bytes .ensures) refl refl (omega arith) (sym (le-ltb _ _ (c .before .if1 .left))),
-  took-inside (c .before .before .before .before .before .before .before .before .before .before .before .before .args .s) _ (c .before .before .before .before .before .before .before .before .before .before .before .before .args .block .now) (c .before .before .before .before .before .before .before .before .before .before .before .before .args .line .now) _ (c .before .before .before .before .before .before .before .before .to-newline .result) (c .before .before .before .before .before .before .kept .result) (c .before .before .before .before .before .before .before .before .before .before .before .before .pre .0)
-      (c .before .before .before .before .before .before .before .before .to-newline .ensures .0) (c .before .before .before .before .before .before .kept .ensures) (c .before .before .before .before .put-bytes .ensures) refl refl (omega arith) (sym (le-ltb _ _ (c .before .if1 .left))),
-)
+returns-2 c =
+    let a = c .before .before .before .before .before .before .before .before .before .before .before .before in
+    took (a .args .s) _ (a .args .block .now) (a .args .line .now) _ (c .before .before .before .before .before .before .before .before .to-newline .result) (c .before .before .before .before .before .before .kept .result)
+    (c .before .before .before .before .before .before .before .before .to-newline .ensures .0) (c .before .before .before .before .before .before .kept .ensures) (c .before .before .before .before .put-bytes .ensures) refl refl refl
+    (omega arith) (sym (le-ltb _ _ (c .before .if1 .left)))
 
 pub take-spec : {M : Type 1} → statement M
 take-spec =
@@ -84,9 +85,10 @@ take-spec =
     part-put-bytes-end
     put-bytes-requires
     add-t19
-    sub-t20
+    add-t20
+    sub-t21
     same-length
     returns
-    sub-t21
+    sub-t22
     same-length-2
     returns-2)
