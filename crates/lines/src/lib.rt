@@ -9,5 +9,6 @@ pub use input::start;
 pub use output::flush;
 pub use output::put;
 pub use output::put_bytes;
+pub use output::put_first;
 pub use output::put_number;
 pub use output::room;

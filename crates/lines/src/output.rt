@@ -4,7 +4,7 @@ ghost use mathlib.Core.List.{[], _∷_};
 ghost use mathlib.Core.Path.{_≡_};
 ghost use Prim.Native.Nat.{_-_};
 ghost use lib.Dec.{ltb};
-ghost use lib.ListN.{replicate};
+ghost use lib.ListN.{replicate, take};
 ghost use Rattle.lines.specs.Output.{Put, PutNumber};
 
 const STDOUT: i32 = 1;
@@ -31,6 +31,16 @@ pub fn put_bytes(out: &mut [u8], used: usize, bytes: &[u8]) -> usize
         i += 1;
     }
     u
+}
+
+// Appends the first n of some bytes, or all where there are fewer.
+pub fn put_first(out: &mut [u8], used: usize, bytes: &[u8], n: usize) -> usize
+    ensures { λ r. ⌜ Put (take n (now (bytes .entry))) used r (now (out .entry)) (now (out .exit)) ⌝ }
+{
+    if n < bytes.len() {
+        return put_bytes(out, used, &bytes[..n]);
+    }
+    put_bytes(out, used, bytes)
 }
 
 // Appends n spaces.
