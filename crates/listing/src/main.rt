@@ -3,78 +3,27 @@
 // normalized set and of the display list; for 4 and 5 the count of errors and four numbers for each; for 2 (a text above 256 bytes) and 3
 // (one that is not UTF-8) nothing more.
 ghost use Prim.Native.Nat.{_<_, _≤_};
+ghost use Rattle.io.specs.Counts.{Counts};
 use chord::Chord;
 use chord::interval::IntervalList;
 use chord::interval::IntervalSet;
 use chord::note::Note;
 use chord::note::OptionalNote;
 use chord::note::RootModifier;
+use lines::Input;
 use reader::Answer;
 use reader::Reading;
 
-const STDIN: i32 = 0;
-
-const STDOUT: i32 = 1;
-
-// What is left of a line where a block of input ends: its bytes up to the 257th, the lines before it, and the output that waits.
-struct Progress {
-    len: usize,
-    lines: u64,
-    used: usize,
-}
-
-// The progress after a block of input, and whether there may be more.
-struct Taken {
-    more: bool,
-    progress: Progress,
-}
-
-// Appends a byte to the first `used` bytes of the output, while there is room.
-fn push(out: &mut [u8], used: usize, byte: u8) -> usize {
-    if used < out.len() {
-        out[used] = byte;
-        return used + 1;
-    }
-    used
-}
-
-// Appends spaces before a number of k digits, up to four columns.
-fn pad(out: &mut [u8], used: usize, k: usize) -> usize {
-    let mut u = used;
-    let mut i = k;
-    while i < 4 {
-        u = push(out, u, b' ');
-        i += 1;
-    }
-    u
-}
-
-fn put_digits(out: &mut [u8], used: usize, digits: &[u8]) -> usize {
-    let mut u = used;
-    let mut i = 0;
-    while i < digits.len() {
-        u = push(out, u, digits[i]);
-        i += 1;
-    }
-    u
-}
-
 // Appends a number, right-justified in four columns.
 fn put_number(out: &mut [u8], used: usize, n: u64) -> usize {
-    let mut text = [0u8; 20];
-    let k = io::decimal(n, &mut text);
-    let u = pad(out, used, k);
-    put_digits(out, u, &text[..k])
+    lines::put_number(out, used, n, 4)
 }
 
 // Appends -1, 0 or 1.
 fn put_alteration(out: &mut [u8], used: usize, m: RootModifier) -> usize {
     let a = m.alteration();
     if a < 0 {
-        let u = push(out, used, b' ');
-        let v = push(out, u, b' ');
-        let w = push(out, v, b'-');
-        return push(out, w, b'1');
+        return lines::put_bytes(out, used, b"  -1");
     }
     if 0 < a {
         return put_number(out, used, 1);
@@ -163,20 +112,9 @@ fn put_set(out: &mut [u8], used: usize, set: IntervalSet) -> usize {
     u
 }
 
-// How many numbers a list has: `len` of its 23, all of them where `len` is larger.
-fn size(list: IntervalList) -> usize
-    ensures { λ r. ⌜ r ≤ 23 ⌝ }
-{
-    let len = list.len;
-    if len < 23 {
-        return len;
-    }
-    23
-}
-
 // Appends the count of the numbers of a list, and the numbers.
 fn put_list(out: &mut [u8], used: usize, list: IntervalList) -> usize {
-    let n = size(list);
+    let n = list.count();
     let mut u = put_number(out, used, n as u64);
     let mut i = 0;
     while i < n {
@@ -230,126 +168,34 @@ fn put_answer(out: &mut [u8], used: usize, text: &[u8]) -> usize {
     put_reading(out, used, r, &errs)
 }
 
-// Writes the first `used` bytes of the output.
-fn flush(out: &[u8], used: usize) {
-    if used <= out.len() {
-        io::write_all(STDOUT, &out[..used]);
-    }
-}
-
-// Makes room for a line: what waits is written where it is more than half of the output.
-fn room(out: &[u8], used: usize) -> usize {
-    if used < 32768 {
+// Appends the line of a text that is ready.
+fn answer(out: &mut [u8], used: usize, line: &[u8], s: Input) -> usize
+    requires { ⌜ Counts (s .len) (now line) ⌝ }
+{
+    if !s.ready {
         return used;
     }
-    flush(out, used);
-    0
+    let len = s.len;
+    let u = lines::room(out, used, 32768);
+    let v = put_number(out, u, s.lines);
+    let w = put_answer(out, v, &line[..len]);
+    lines::put(out, w, b'\n')
 }
 
-// Answers the line that ended.
-fn end_line(out: &mut [u8], line: &[u8], p: Progress) -> Progress {
-    let len = p.len;
-    let lines = p.lines;
-    if line.len() < len {
-        return p;
+// Answers every line of standard input.
+fn answer_all(out: &mut [u8], line: &mut [u8], block: &mut [u8]) {
+    let mut s = lines::start();
+    let mut used = 0;
+    while 0 < s.left {
+        s = lines::next(block, line, s);
+        used = answer(out, used, line, s);
     }
-    if 1000000000000 < lines {
-        return p;
-    }
-    let used = room(out, p.used);
-    let mut u = put_number(out, used, lines + 1);
-    u = put_answer(out, u, &line[..len]);
-    u = push(out, u, b'\n');
-    Progress {
-        len: 0,
-        lines: lines + 1,
-        used: u,
-    }
-}
-
-// Takes one byte of the input.
-fn take_byte(out: &mut [u8], line: &mut [u8], p: Progress, byte: u8) -> Progress {
-    if byte == b'\n' {
-        return end_line(out, line, p);
-    }
-    let len = p.len;
-    if len < line.len() {
-        line[len] = byte;
-        return Progress {
-            len: len + 1,
-            lines: p.lines,
-            used: p.used,
-        };
-    }
-    p
-}
-
-// Takes a block of input.
-fn take_block(out: &mut [u8], line: &mut [u8], input: &[u8], p: Progress) -> Progress {
-    let mut q = p;
-    let mut i = 0;
-    while i < input.len() {
-        q = take_byte(out, line, q, input[i]);
-        i += 1;
-    }
-    q
-}
-
-// Takes the next block of input, and answers whether there was one.
-fn take_input(out: &mut [u8], line: &mut [u8], input: &mut [u8], p: Progress) -> Taken {
-    let got = libc::read(STDIN, input);
-    if got <= 0 {
-        return Taken {
-            more: false,
-            progress: p,
-        };
-    }
-    let n = io::count(got, input);
-    let progress = take_block(out, line, &input[..n], p);
-    Taken {
-        more: true,
-        progress,
-    }
-}
-
-// Answers every line of standard input. A proved loop has to end, so the blocks of input are counted down from a number that no run uses up.
-fn run(out: &mut [u8], line: &mut [u8], input: &mut [u8]) -> Progress {
-    let mut p = Progress {
-        len: 0,
-        lines: 0,
-        used: 0,
-    };
-    let mut blocks = u64::MAX;
-    while 0 < blocks {
-        let t = take_input(out, line, input, p);
-        p = t.progress;
-        if !t.more {
-            return p;
-        }
-        blocks -= 1;
-    }
-    p
-}
-
-// Answers what is left of a last line without its newline, and writes what waits.
-fn finish(out: &mut [u8], line: &[u8], p: Progress) {
-    let len = p.len;
-    if len == 0 {
-        flush(out, p.used);
-        return;
-    }
-    let q = end_line(out, line, p);
-    flush(out, q.used);
-}
-
-fn answer_all(out: &mut [u8], line: &mut [u8], input: &mut [u8]) {
-    let p = run(out, line, input);
-    finish(out, line, p);
+    lines::flush(out, used);
 }
 
 fn main() {
     let mut out = io::large_buffer();
     let mut line = [0u8; 257];
-    let mut input = io::large_buffer();
-    answer_all(&mut out, &mut line, &mut input);
+    let mut block = io::large_buffer();
+    answer_all(&mut out, &mut line, &mut block);
 }
