@@ -3,6 +3,7 @@
 ghost use Prim.Native.Nat.{_<_, _≤_};
 ghost use lib.ListN.{length};
 ghost use Rattle.io.specs.Counts.{Counts};
+use lines::Input;
 use utf8::Found;
 
 // The value of a hexadecimal digit; any other byte counts as 0.
@@ -160,34 +161,27 @@ fn write_line(line: &[u8]) {
     write_answer(line);
 }
 
-// Where the line that begins at `start` ends: at a line feed, or at the end of the text.
-fn line_end(text: &[u8], start: usize) -> usize
-    requires { ⌜ start ≤ length (now text) ⌝ }
-    ensures { λ r. ⌜ (start ≤ r) × (r ≤ length (now (text .entry))) ⌝ }
+// Answers a line that is ready.
+fn answer(line: &[u8], s: Input)
+    requires { ⌜ Counts (s .len) (now line) ⌝ }
 {
-    let mut i = start;
-    while i < text.len() {
-        if text[i] == b'\n' {
-            return i;
-        }
-        i += 1;
-    }
-    i
-}
-
-// Goes through the lines of a text.
-fn write_lines(text: &[u8]) {
-    let mut start = 0;
-    while start < text.len() {
-        let end = line_end(text, start);
-        write_line(&text[start..end]);
-        start = end + 1;
+    let len = s.len;
+    if s.ready {
+        write_line(&line[..len]);
     }
 }
 
-// Reads at most 16 KiB of standard input, and goes through its lines.
+// Answers every line of standard input.
+fn answer_all(line: &mut [u8], block: &mut [u8]) {
+    let mut s = lines::start();
+    while 0 < s.left {
+        s = lines::next(block, line, s);
+        answer(line, s);
+    }
+}
+
 fn main() {
-    let mut buffer = [0u8; 16384];
-    let n = io::read_full(0, &mut buffer);
-    write_lines(&buffer[..n]);
+    let mut line = io::buffer();
+    let mut block = io::buffer();
+    answer_all(&mut line, &mut block);
 }
