@@ -1,6 +1,7 @@
-// A line protocol: one question a line, whose first word says which, and one answer a line. `read LIST TEXT` reads a text with a lent list of
-// LIST numbers, `spell TEXT` gives its house spelling, and `write BUFFER RECORD` writes a record into a lent buffer of BUFFER bytes. A line that
-// is no question is answered `?` and why. What waits is written where a block of input ends, so that a caller who waits for an answer gets it.
+// A line protocol: one question a line, whose first word says which, and one answer a line. `read LIST TEXT` reads a text with a lent
+// list of LIST numbers, `spell TEXT` gives its house spelling, and `write BUFFER RECORD` writes a record into a lent buffer of BUFFER
+// bytes. A line that is no question is answered `?` and why. What waits is written where a block of input ends, so that a caller who
+// waits for an answer gets it.
 ghost use Prim.Native.Nat.{_≤_};
 ghost use Rattle.io.specs.Counts.{Counts};
 

@@ -1,5 +1,5 @@
-// The record of a question: root letter (-1 none), alteration, bass letter, alteration, count and members of N, count and members of the display
-// list; or `=` and the text that it is read from.
+// The record of a question: root letter (-1 none), alteration, bass letter, alteration, count and members of N, count and members of the
+// display list; or `=` and the text that it is read from.
 use crate::fault::Fault;
 use crate::number::Number;
 use crate::number::behind_space;

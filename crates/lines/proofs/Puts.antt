@@ -37,7 +37,8 @@ pub put-length : {n r : ℕ} {t b b′ : List ℕ} → Put t n r b b′ → leng
 put-length {n} {r} {t} {b} {b′} p = ap length (p .bytes) ∙ length-sets b n t
 
 -- the place where t went is that behind s, or both lie behind the end
-put-at : (n m : ℕ) (s t b : List ℕ) → m ≡ n + min (length s) (length b - n) → (full : Bool) → ltb (length b - n) (length s) ≡ full → sets (sets b n s) m t ≡ sets b n (s ++ t)
+put-at : (n m : ℕ) (s t b : List ℕ) → m ≡ n + min (length s) (length b - n) → (full : Bool) →
+    ltb (length b - n) (length s) ≡ full → sets (sets b n s) m t ≡ sets b n (s ++ t)
 put-at n m s t b e false f =
     let h : length s ≤ length b - n = ltb-false (length b - n) (length s) f in
     let k : m ≡ n + length s = omega arith in
@@ -62,13 +63,15 @@ pub put-as : {n r : ℕ} {s t b b′ : List ℕ} → s ≡ t → Put s n r b b�
 put-as {n} {r} {s} {t} {b} {b′} e p = subst (λ (k : List ℕ). Put k n r b b′) e p
 
 -- one more byte of a text
-pub put-next : {n m r : ℕ} {b b′ b″ : List ℕ} (t : List ℕ) (i : ℕ) → i < length t → Put (take i t) n m b b′ → Put (getD t i 0 ∷ []) m r b′ b″ → Put (take (i + 1) t) n r b b″
+pub put-next : {n m r : ℕ} {b b′ b″ : List ℕ} (t : List ℕ) (i : ℕ) → i < length t →
+    Put (take i t) n m b b′ → Put (getD t i 0 ∷ []) m r b′ b″ → Put (take (i + 1) t) n r b b″
 put-next {n} {m} {r} t i h p q =
     let k : suc i ≡ i + 1 = omega arith in
     put-as (sym (take-suc t i 0 h) ∙ ap (λ (j : ℕ). take j t) k) (put-then p q)
 
 -- one more of the same
-pub put-again : {n m r x : ℕ} {b b′ b″ : List ℕ} (i : ℕ) → Put (replicate i x) n m b b′ → Put (x ∷ []) m r b′ b″ → Put (replicate (i + 1) x) n r b b″
+pub put-again : {n m r x : ℕ} {b b′ b″ : List ℕ} (i : ℕ) →
+    Put (replicate i x) n m b b′ → Put (x ∷ []) m r b′ b″ → Put (replicate (i + 1) x) n r b b″
 put-again {n} {m} {r} {x} i p q = put-as (replicate-append-replicate i 1 x) (put-then p q)
 
 -- the count stays in the buffer

@@ -51,8 +51,8 @@ pub record Took (s r : Input) (block line line′ : List ℕ) : Type 0 where
   pub lines : r .lines ≡ counted s r
   pub left : r .left ≡ s .left - 1
 
--- a block was read, of which nothing can be said but that it lies in its buffer; at the end of the input there is none, no call may follow, and
--- "a last line without newline is a line, if it has bytes"
+-- a block was read, of which nothing can be said but that it lies in its buffer; at the end of the input there is none, no call may
+-- follow, and a last line without newline is a line, if it has bytes
 pub record Read (s r : Input) (room : ℕ) : Type 0 where
   pub at : r .at ≡ 0
   pub end : r .end ≤ room

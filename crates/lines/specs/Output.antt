@@ -10,8 +10,8 @@ use Rattle.io.specs.Digits.{Fewest, digits}
 abbrev pub fitting : List ℕ → ℕ → List ℕ → ℕ
 fitting t n b = min (length t) (length b - n)
 
--- t was put behind the first n bytes of b: it stands there as far as there is room (`sets` leaves a list as it is behind its end), all else is
--- as it was, and r bytes are taken now
+-- t was put behind the first n bytes of b: it stands there as far as there is room (`sets` leaves a list as it is behind its end), all
+-- else is as it was, and r bytes are taken now
 pub record Put (t : List ℕ) (n r : ℕ) (b b′ : List ℕ) : Type 0 where
   pub bytes : b′ ≡ sets b n t
   pub count : r ≡ n + fitting t n b

@@ -1,5 +1,5 @@
-// Lines of standard input, out of blocks. The caller lends a buffer for blocks and one for a line, and asks for the next line until no call may
-// follow: `while 0 < s.left { s = next(block, line, s); .. }`, where the first `s.len` bytes of `line` are a line if `s.ready`.
+// Lines of standard input, out of blocks. The caller lends a buffer for blocks and one for a line, and asks for the next line until no
+// call may follow: `while 0 < s.left { s = next(block, line, s); .. }`, where the first `s.len` bytes of `line` are a line if `s.ready`.
 ghost use mathlib.Core.List.{List};
 ghost use mathlib.Core.Path.{_≡_};
 ghost use Prim.Native.Nat.{ℕ, _+_, _≤_, _<_};
@@ -9,9 +9,9 @@ use crate::output::put_bytes;
 
 const STDIN: i32 = 0;
 
-// Where reading stands: the bytes of the block from `at` to `end` are not taken yet, and the first `len` bytes of the line's buffer are those
-// of the line so far, all of them once it is ready; then `lines` is its number, from 1. A proved loop has to end, so calls are counted down
-// from a number that no run uses up; `left` may follow, none at the end of the input.
+// Where reading stands: the bytes of the block from `at` to `end` are not taken yet, and the first `len` bytes of the line's buffer are
+// those of the line so far, all of them once it is ready; then `lines` is its number, from 1. A proved loop has to end, so calls are
+// counted down from a number that no run uses up; `left` may follow, none at the end of the input.
 pub struct Input {
     pub at: usize,
     pub end: usize,

@@ -9,6 +9,9 @@ ghost use Rattle.lines.specs.Output.{Put, PutNumber};
 
 const STDOUT: i32 = 1;
 
+// How many bytes wait once all are written.
+const NONE: usize = 0;
+
 // Appends a byte, while there is room.
 pub fn put(out: &mut [u8], used: usize, byte: u8) -> usize
     ensures { λ r. ⌜ Put (byte ∷ []) used r (now (out .entry)) (now (out .exit)) ⌝ }
@@ -83,7 +86,7 @@ pub fn flush(out: &[u8], used: usize) -> usize
     if used <= out.len() {
         io::write_all(STDOUT, &out[..used]);
     }
-    0
+    NONE
 }
 
 // Makes room: writes what waits where it is `most` bytes or more.

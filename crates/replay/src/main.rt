@@ -6,36 +6,27 @@ ghost use mathlib.Core.Bool.{true};
 ghost use mathlib.Core.Path.{_≡_};
 ghost use Prim.Native.Nat.{_<_, _≤_};
 ghost use lib.ListN.{length};
+ghost use Rattle.io.specs.Counts.{Counts};
 use chord::Chord;
 use chord::interval::IntervalList;
 use chord::interval::IntervalSet;
 use chord::note::Note;
 use chord::note::OptionalNote;
 use chord::note::RootModifier;
+use lines::Input;
 use reader::Answer;
-
-const STDIN: i32 = 0;
-
-const STDOUT: i32 = 1;
 
 // The first number of the pattern that lent lists are filled with; no error has a number as large.
 const FIRST_MARK: u16 = 40000;
 
-// The case in hand and what came before it: its bytes so far without the newlines, where its text ends once the text is whole, the cases
-// before it and how many of these are right, and the output that waits.
+// The case in hand and what came before it: whether its text is whole and how many bytes it has, the cases before it and how many of
+// these are right, and the output that waits.
 struct Progress {
-    len: usize,
     whole: bool,
     text: usize,
     cases: u64,
     right: u64,
     used: usize,
-}
-
-// The progress after a block of input, and whether there may be more.
-struct Taken {
-    more: bool,
-    progress: Progress,
 }
 
 // One more, up to the largest number.
@@ -88,59 +79,16 @@ fn same(a: &[u8], b: &[u8]) -> bool
     true
 }
 
-// Appends a byte to the first `used` bytes of the output, while there is room.
-fn push(out: &mut [u8], used: usize, byte: u8) -> usize {
-    if used < out.len() {
-        out[used] = byte;
-        return used + 1;
-    }
-    used
-}
-
-// Appends spaces before a number of k digits, up to four columns.
-fn pad(out: &mut [u8], used: usize, k: usize) -> usize {
-    let mut u = used;
-    let mut i = k;
-    while i < 4 {
-        u = push(out, u, b' ');
-        i += 1;
-    }
-    u
-}
-
-fn put_bytes(out: &mut [u8], used: usize, bytes: &[u8]) -> usize {
-    let mut u = used;
-    let mut i = 0;
-    while i < bytes.len() {
-        u = push(out, u, bytes[i]);
-        i += 1;
-    }
-    u
-}
-
 // Appends a number, right-justified in four columns.
 fn put_number(out: &mut [u8], used: usize, n: u64) -> usize {
-    let mut text = [0u8; 20];
-    let k = io::decimal(n, &mut text);
-    let u = pad(out, used, k);
-    put_bytes(out, u, &text[..k])
-}
-
-// Appends a number in as many columns as it has digits.
-fn put_plain(out: &mut [u8], used: usize, n: u64) -> usize {
-    let mut text = [0u8; 20];
-    let k = io::decimal(n, &mut text);
-    put_bytes(out, used, &text[..k])
+    lines::put_number(out, used, n, 4)
 }
 
 // Appends -1, 0 or 1.
 fn put_alteration(out: &mut [u8], used: usize, m: RootModifier) -> usize {
     let a = m.alteration();
     if a < 0 {
-        let u = push(out, used, b' ');
-        let v = push(out, u, b' ');
-        let w = push(out, v, b'-');
-        return push(out, w, b'1');
+        return lines::put_bytes(out, used, b"  -1");
     }
     if 0 < a {
         return put_number(out, used, 1);
@@ -220,8 +168,8 @@ fn put_set(out: &mut [u8], used: usize, set: IntervalSet) -> usize {
 
 // Appends the count of numbers of a list, and the numbers.
 fn put_list(out: &mut [u8], used: usize, list: IntervalList) -> usize {
-    let n = least(list.len, 23);
-    let mut u = put_number(out, used, list.len as u64);
+    let n = list.count();
+    let mut u = put_number(out, used, n as u64);
     let mut i = 0;
     while i < n {
         u = put_byte(out, u, list.numbers[i]);
@@ -302,176 +250,100 @@ fn answered(text: &[u8], stored: &[u8]) -> bool {
     as_stored(&ours, u, stored)
 }
 
-// Is the case right that the first `len` bytes hold, the first `text` of them being its text?
-fn case_right(case: &[u8], text: usize, len: usize) -> bool {
-    if case.len() < len {
+// Is the stored answer to the first `len` bytes of a text ours?
+fn case_right(text: &[u8], len: usize, stored: &[u8]) -> bool {
+    if text.len() < len {
         return false;
     }
-    if len < text {
-        return false;
-    }
-    answered(&case[..text], &case[text..len])
+    answered(&text[..len], stored)
 }
 
-// Writes the first `used` bytes of the output.
-fn flush(out: &[u8], used: usize) {
-    if used <= out.len() {
-        io::write_all(STDOUT, &out[..used]);
-    }
-}
-
-// Makes room for a line: what waits is written where it is more than half of the output.
-fn room(out: &[u8], used: usize) -> usize {
-    if used < 32768 {
+// Appends the number of a case that is wrong, as a line.
+fn put_case(out: &mut [u8], used: usize, case: u64, is_right: bool) -> usize {
+    if is_right {
         return used;
     }
-    flush(out, used);
-    0
-}
-
-// Appends the number of a wrong case, as a line.
-fn put_wrong(out: &mut [u8], used: usize, case: u64) -> usize {
-    let u = room(out, used);
-    let v = put_plain(out, u, case);
-    push(out, v, b'\n')
+    let u = lines::room(out, used, 32768);
+    let v = lines::put_number(out, u, case, 0);
+    lines::put(out, v, b'\n')
 }
 
 // Appends `N right, M wrong`, as a line.
 fn put_counts(out: &mut [u8], used: usize, right: u64, wrong: u64) -> usize {
-    let u = put_plain(out, used, right);
-    let v = put_bytes(out, u, b" right, ");
-    let w = put_plain(out, v, wrong);
-    put_bytes(out, w, b" wrong\n")
+    let u = lines::put_number(out, used, right, 0);
+    let v = lines::put_bytes(out, u, b" right, ");
+    let w = lines::put_number(out, v, wrong, 0);
+    lines::put_bytes(out, w, b" wrong\n")
 }
 
-// Judges the case that ended.
-fn end_case(out: &mut [u8], case: &[u8], p: Progress) -> Progress {
-    let text = p.text;
-    let len = p.len;
+// The progress after a case: its number is printed where it is wrong.
+fn end_case(out: &mut [u8], p: Progress, is_right: bool) -> Progress {
     let cases = more(p.cases);
-    if case_right(case, text, len) {
-        return Progress {
-            len: 0,
-            whole: false,
-            text: 0,
-            cases,
-            right: more(p.right),
-            used: p.used,
-        };
-    }
-    let used = put_wrong(out, p.used, cases);
+    let right = tick(p.right, is_right);
+    let used = put_case(out, p.used, cases, is_right);
     Progress {
-        len: 0,
         whole: false,
         text: 0,
         cases,
-        right: p.right,
+        right,
         used,
     }
 }
 
-// Ends a line: the first of a case is its text, and the second ends it.
-fn end_line(out: &mut [u8], case: &[u8], p: Progress) -> Progress {
+// Takes a line: the first of a case is its text, which is kept up to its 257th byte, and the second the stored answer.
+fn take_line(out: &mut [u8], text: &mut [u8], line: &[u8], p: Progress) -> Progress {
     if p.whole {
-        return end_case(out, case, p);
+        return end_case(out, p, case_right(text, p.text, line));
     }
     Progress {
-        len: p.len,
         whole: true,
-        text: p.len,
+        text: lines::put_bytes(text, 0, line),
         cases: p.cases,
         right: p.right,
         used: p.used,
     }
 }
 
-// Takes one byte of the input. A case that is too long loses bytes, and is wrong for want of its answer.
-fn take_byte(out: &mut [u8], case: &mut [u8], p: Progress, byte: u8) -> Progress {
-    if byte == b'\n' {
-        return end_line(out, case, p);
+// Takes a line that is ready.
+fn take_ready(out: &mut [u8], text: &mut [u8], line: &[u8], s: Input, p: Progress) -> Progress
+    requires { ⌜ Counts (s .len) (now line) ⌝ }
+{
+    if !s.ready {
+        return p;
     }
-    let len = p.len;
-    if len < case.len() {
-        case[len] = byte;
-        return Progress {
-            len: len + 1,
-            whole: p.whole,
-            text: p.text,
-            cases: p.cases,
-            right: p.right,
-            used: p.used,
-        };
-    }
-    p
+    let len = s.len;
+    take_line(out, text, &line[..len], p)
 }
 
-// Takes a block of input.
-fn take_block(out: &mut [u8], case: &mut [u8], input: &[u8], p: Progress) -> Progress {
-    let mut q = p;
-    let mut i = 0;
-    while i < input.len() {
-        q = take_byte(out, case, q, input[i]);
-        i += 1;
-    }
-    q
-}
-
-// Takes the next block of input, and answers whether there was one.
-fn take_input(out: &mut [u8], case: &mut [u8], input: &mut [u8], p: Progress) -> Taken {
-    let got = libc::read(STDIN, input);
-    if got <= 0 {
-        return Taken {
-            more: false,
-            progress: p,
-        };
-    }
-    let n = io::count(got, input);
-    let progress = take_block(out, case, &input[..n], p);
-    Taken {
-        more: true,
-        progress,
-    }
-}
-
-// Judges every case of standard input. A proved loop has to end, so the blocks of input are counted down from a number that no run uses up.
-fn run(out: &mut [u8], case: &mut [u8], input: &mut [u8]) -> Progress {
+// Judges every case of standard input.
+fn run(out: &mut [u8], text: &mut [u8], line: &mut [u8], block: &mut [u8]) -> Progress {
     let mut p = Progress {
-        len: 0,
         whole: false,
         text: 0,
         cases: 0,
         right: 0,
         used: 0,
     };
-    let mut blocks = u64::MAX;
-    while 0 < blocks {
-        let t = take_input(out, case, input, p);
-        p = t.progress;
-        if !t.more {
-            return p;
-        }
-        blocks -= 1;
+    let mut s = lines::start();
+    while 0 < s.left {
+        s = lines::next(block, line, s);
+        p = take_ready(out, text, line, s, p);
     }
     p
 }
 
-// Judges what is left of a last case without its newline; a text without an answer is a wrong case.
-fn rest(out: &mut [u8], case: &[u8], p: Progress) -> Progress {
-    let len = p.len;
+// A text without an answer is a wrong case.
+fn rest(out: &mut [u8], p: Progress) -> Progress {
     if p.whole {
-        return end_case(out, case, p);
-    }
-    if 0 < len {
-        let q = end_line(out, case, p);
-        return end_case(out, case, q);
+        return end_case(out, p, false);
     }
     p
 }
 
 // Judges all cases, and gives the count of bytes of the output that wait.
-fn replay(out: &mut [u8], case: &mut [u8], input: &mut [u8]) -> usize {
-    let p = run(out, case, input);
-    let q = rest(out, case, p);
+fn replay(out: &mut [u8], text: &mut [u8], line: &mut [u8], block: &mut [u8]) -> usize {
+    let p = run(out, text, line, block);
+    let q = rest(out, p);
     put_counts(out, q.used, q.right, less(q.cases, q.right))
 }
 
@@ -571,19 +443,20 @@ fn lists() -> u64 {
 // Appends what the lent lists gave, as a line.
 fn put_lists(out: &mut [u8], used: usize) -> usize {
     let right = lists();
-    let u = put_bytes(out, used, b"lists: ");
+    let u = lines::put_bytes(out, used, b"lists: ");
     put_counts(out, u, right, less(20, right))
 }
 
-fn answer_all(out: &mut [u8], case: &mut [u8], input: &mut [u8]) {
-    let u = replay(out, case, input);
+fn answer_all(out: &mut [u8], text: &mut [u8], line: &mut [u8], block: &mut [u8]) {
+    let u = replay(out, text, line, block);
     let v = put_lists(out, u);
-    flush(out, v);
+    lines::flush(out, v);
 }
 
 fn main() {
     let mut out = io::large_buffer();
-    let mut case = [0u8; 8192];
-    let mut input = io::large_buffer();
-    answer_all(&mut out, &mut case, &mut input);
+    let mut text = [0u8; 257];
+    let mut line = [0u8; 8192];
+    let mut block = io::large_buffer();
+    answer_all(&mut out, &mut text, &mut line, &mut block);
 }

@@ -1,22 +1,19 @@
-// For people: reads texts, from the arguments or else from the lines of standard input, and prints for each its house spelling, root, bass,
-// intervals by name and the pitch classes that sound (C 0 to B 11, with the bass); for a refused text each error in plain words, with a caret under
-// its place in the text.
+// For people: reads texts, from the arguments or else from the lines of standard input, and prints for each its house spelling, root,
+// bass, intervals by name and the pitch classes that sound (C 0 to B 11, with the bass); for a refused text each error in plain words,
+// with a caret under its place in the text. A line is kept up to its 258th byte: one that is cut has more than 256 without a carriage
+// return too.
+ghost use Prim.Native.Nat.{_≤_};
+ghost use lib.ListN.{length};
+
 mod chords;
 mod errors;
 mod print;
 
 use errors::put_errors;
+use lines::Input;
 use print::put;
 use reader::Answer;
 use reader::Reading;
-
-const STDIN: i32 = 0;
-
-// What is left of a line where a block of input ends: its bytes up to the 257th.
-struct Taken {
-    more: bool,
-    len: usize,
-}
 
 fn put_refusal(text: &[u8], answer: Answer, errs: &[u16]) {
     match answer {
@@ -45,69 +42,41 @@ fn show(text: &[u8]) {
     put_reading(text, r, &errs);
 }
 
-fn show_line(line: &[u8], len: usize) {
-    if len <= line.len() {
+// How many bytes of a line are the card: a carriage return before the newline belongs to the line's end. What is left where no call may
+// follow had no newline.
+fn card_len(line: &[u8], s: Input) -> usize
+    requires { ⌜ s .len ≤ length (now line) ⌝ }
+    ensures { λ r. ⌜ r ≤ length (now (line .entry)) ⌝ }
+{
+    let len = s.len;
+    if s.left == 0 {
+        return len;
+    }
+    if len == 0 {
+        return 0;
+    }
+    if line[len - 1] == b'\r' {
+        return len - 1;
+    }
+    len
+}
+
+// Shows a line that is ready.
+fn show_line(line: &[u8], s: Input)
+    requires { ⌜ s .len ≤ length (now line) ⌝ }
+{
+    let len = card_len(line, s);
+    if s.ready {
         show(&line[..len]);
     }
 }
 
-// Takes one byte of the input: how many bytes the line has now.
-fn take_byte(line: &mut [u8], len: usize, byte: u8) -> usize {
-    if byte == b'\n' {
-        show_line(line, len);
-        return 0;
-    }
-    if len < line.len() {
-        line[len] = byte;
-        return len + 1;
-    }
-    len
-}
-
-fn take_block(line: &mut [u8], len: usize, input: &[u8]) -> usize {
-    let mut n = len;
-    let mut i = 0;
-    while i < input.len() {
-        n = take_byte(line, n, input[i]);
-        i += 1;
-    }
-    n
-}
-
-// Takes the next block of input, and answers whether there was one.
-fn take_input(line: &mut [u8], len: usize, input: &mut [u8]) -> Taken {
-    let got = libc::read(STDIN, input);
-    if got <= 0 {
-        return Taken { more: false, len };
-    }
-    let n = io::count(got, input);
-    Taken {
-        more: true,
-        len: take_block(line, len, &input[..n]),
-    }
-}
-
-// Shows every line of standard input. A proved loop has to end, so the blocks of input are counted down from a number that no run uses up.
-fn take_lines(line: &mut [u8], input: &mut [u8]) -> usize {
-    let mut len = 0;
-    let mut blocks = u64::MAX;
-    while 0 < blocks {
-        let t = take_input(line, len, input);
-        len = t.len;
-        if !t.more {
-            return len;
-        }
-        blocks -= 1;
-    }
-    len
-}
-
-fn show_lines() {
-    let mut line = [0u8; 257];
-    let mut input = io::buffer();
-    let len = take_lines(&mut line, &mut input);
-    if 0 < len {
-        show_line(&line, len);
+// Shows every line of standard input.
+fn show_lines(line: &mut [u8], block: &mut [u8]) {
+    let mut s = lines::start();
+    while 0 < s.left {
+        s = lines::next(block, line, s);
+        show_line(line, s);
     }
 }
 
@@ -135,5 +104,7 @@ fn main() {
         show_arguments(count);
         return;
     }
-    show_lines();
+    let mut line = [0u8; 258];
+    let mut block = io::buffer();
+    show_lines(&mut line, &mut block);
 }

@@ -47,7 +47,9 @@ array-borrow-prefix-buffer : tie.Need-array-borrow-prefix-buffer
 array-borrow-prefix-buffer c = search needs
 
 slice-aggregate-put-written : tie.Need-slice-aggregate-put-written
-slice-aggregate-put-written c = sym (length-take-le _ _ (omega (arith, c .before .before .buffer .ensures, c .before .before .before .at-most .ensures)))
+slice-aggregate-put-written c =
+    let b = c .before .before in
+    sym (length-take-le _ _ (omega (arith, b .buffer .ensures, b .before .at-most .ensures)))
 
 put-written-requires : tie.Need-put-written-requires
 put-written-requires c κs = search needs

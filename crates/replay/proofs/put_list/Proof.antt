@@ -13,8 +13,8 @@ Inv-loop out₀ used list n u₀ i₀ out u i = (i ≤ n) × (n ≤ 23) × (leng
 abbrev μ-loop : tie.MeasureT-loop
 μ-loop out₀ used list n u₀ i₀ out u i = n - i
 
-least-requires : tie.Need-least-requires Inv-loop μ-loop
-least-requires c κs = search needs
+count-requires : tie.Need-count-requires Inv-loop μ-loop
+count-requires c κs = search needs
 
 put-number-requires : tie.Need-put-number-requires Inv-loop μ-loop
 put-number-requires c κs = search needs
@@ -49,7 +49,7 @@ put-list-spec =
     (tie.spec
     Inv-loop
     μ-loop
-    least-requires
+    count-requires
     put-number-requires
     loop-holds
     element-copy-out-put-byte

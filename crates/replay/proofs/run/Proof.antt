@@ -1,22 +1,37 @@
--- The measure is the count of blocks that are left.
+-- The state lies inside the two buffers at each turn; the measure is the count of calls that may follow.
 -- Assumes nothing.
-use mathlib.Core.Path.{_≡_}
+use mathlib.Core.Path.{_≡_, refl}
 use lib.ListN.{length}
+use Rattle.lines.specs.Input.{Inside}
 use borrow.Author.Needs.{needs}
 use Rattle.replay.proofs.run.Statement.{statement}
 use Rattle.replay.proofs.run.Tie as tie
 
 abbrev Inv-loop : tie.InvT-loop
-Inv-loop out₀ line₀ input₀ p₀ blocks₀ out line input p blocks = (length out ≡ length out₀) × (length line ≡ length line₀) × (length input ≡ length input₀)
+Inv-loop out₀ text₀ line₀ block₀ p₀ s₀ out text line block p s =
+    Inside s block line × (length out ≡ length out₀) × (length text ≡ length text₀) ×
+    (length line ≡ length line₀) × (length block ≡ length block₀)
 
 abbrev μ-loop : tie.MeasureT-loop
-μ-loop out₀ line₀ input₀ p₀ blocks₀ out line input p blocks = blocks
+μ-loop out₀ text₀ line₀ block₀ p₀ s₀ out text line block p s = s .left
+
+start-requires : tie.Need-start-requires Inv-loop μ-loop
+start-requires c κs = search needs
 
 loop-holds : tie.Need-loop-holds Inv-loop μ-loop
-loop-holds c = search needs
+loop-holds c = (c .start .ensures .1 _ _, refl, refl, refl, refl)
 
-take-input-requires : tie.Need-take-input-requires Inv-loop μ-loop
-take-input-requires c κs = search needs
+next-requires : tie.Need-next-requires Inv-loop μ-loop
+next-requires c κs = search needs
+
+take-ready-requires : tie.Need-take-ready-requires Inv-loop μ-loop
+take-ready-requires c κs = search needs
+
+loop-less : tie.Need-loop-less Inv-loop μ-loop
+loop-less c = search needs
+
+loop-again : tie.Need-loop-again Inv-loop μ-loop
+loop-again c = search needs
 
 same-length : tie.Need-same-length Inv-loop μ-loop
 same-length c = search needs
@@ -27,29 +42,11 @@ same-length-2 c = search needs
 same-length-3 : tie.Need-same-length-3 Inv-loop μ-loop
 same-length-3 c = search needs
 
-returns : tie.Need-returns Inv-loop μ-loop
-returns c = search needs
-
-sub-blocks : tie.Need-sub-blocks Inv-loop μ-loop
-sub-blocks c = search needs
-
-loop-less : tie.Need-loop-less Inv-loop μ-loop
-loop-less c = search needs
-
-loop-again : tie.Need-loop-again Inv-loop μ-loop
-loop-again c = search needs
-
 same-length-4 : tie.Need-same-length-4 Inv-loop μ-loop
 same-length-4 c = search needs
 
-same-length-5 : tie.Need-same-length-5 Inv-loop μ-loop
-same-length-5 c = search needs
-
-same-length-6 : tie.Need-same-length-6 Inv-loop μ-loop
-same-length-6 c = search needs
-
-returns-2 : tie.Need-returns-2 Inv-loop μ-loop
-returns-2 c = search needs
+returns : tie.Need-returns Inv-loop μ-loop
+returns c = search needs
 
 pub run-spec : {M : Type 1} → statement M
 run-spec =
@@ -57,16 +54,14 @@ run-spec =
     (tie.spec
     Inv-loop
     μ-loop
+    start-requires
     loop-holds
-    take-input-requires
+    next-requires
+    take-ready-requires
+    loop-less
+    loop-again
     same-length
     same-length-2
     same-length-3
-    returns
-    sub-blocks
-    loop-less
-    loop-again
     same-length-4
-    same-length-5
-    same-length-6
-    returns-2)
+    returns)

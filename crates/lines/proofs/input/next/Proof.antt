@@ -15,7 +15,9 @@ same-length-2 : tie.Need-same-length-2
 same-length-2 c = search needs
 
 returns : tie.Need-returns
-returns c = let a = c .before .before .before .before .before .before .before .before in next-took _ _ _ _ _ (c .before .before .before .before .before .if1 .taken) (a .pre .1) (a .pre .0) (c .before .before .take .ensures)
+returns c =
+    let a = c .before .before .before .before .before .before .before .before in
+    next-took _ _ _ _ _ (c .before .before .before .before .before .if1 .taken) (a .pre .1) (a .pre .0) (c .before .before .take .ensures)
 
 fill-requires : tie.Need-fill-requires
 fill-requires c κs = search needs
@@ -24,7 +26,9 @@ same-length-3 : tie.Need-same-length-3
 same-length-3 c = search needs
 
 returns-2 : tie.Need-returns-2
-returns-2 c = let a = c .before .before .before .before .before .before .before in next-read _ _ _ _ _ (c .before .before .before .before .if1 .left) (a .pre .1) (a .pre .0) (c .before .before .fill .ensures)
+returns-2 c =
+    let a = c .before .before .before .before .before .before .before in
+    next-read _ _ _ _ _ (c .before .before .before .before .if1 .left) (a .pre .1) (a .pre .0) (c .before .before .fill .ensures)
 
 pub next-spec : {M : Type 1} → statement M
 next-spec =

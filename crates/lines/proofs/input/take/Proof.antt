@@ -53,8 +53,10 @@ same-length c = search needs
 returns : tie.Need-returns
 returns c =
     let a = c .before .before .before .before .before .before .before .before .before .before .before .before .before in
-    took (a .args .s) _ (a .args .block .now) (a .args .line .now) _ (c .before .before .before .before .before .before .before .before .before .to-newline .result) (c .before .before .before .before .before .before .before .kept .result)
-    (c .before .before .before .before .before .before .before .before .before .to-newline .ensures .0) (c .before .before .before .before .before .before .before .kept .ensures) (c .before .before .before .before .before .put-bytes .ensures) refl refl refl
+    let found = c .before .before .before .before .before .before .before .before .before .to-newline in
+    let behind = c .before .before .before .before .before .before .before .kept in
+    took (a .args .s) _ (a .args .block .now) (a .args .line .now) _ (found .result) (behind .result)
+    (found .ensures .0) (behind .ensures) (c .before .before .before .before .before .put-bytes .ensures) refl refl refl
     (omega arith) (sym (lt-ltb _ _ (c .before .before .if1 .taken)))
 
 sub-t22 : tie.Need-sub-t22
@@ -66,8 +68,10 @@ same-length-2 c = search needs
 returns-2 : tie.Need-returns-2
 returns-2 c =
     let a = c .before .before .before .before .before .before .before .before .before .before .before .before in
-    took (a .args .s) _ (a .args .block .now) (a .args .line .now) _ (c .before .before .before .before .before .before .before .before .to-newline .result) (c .before .before .before .before .before .before .kept .result)
-    (c .before .before .before .before .before .before .before .before .to-newline .ensures .0) (c .before .before .before .before .before .before .kept .ensures) (c .before .before .before .before .put-bytes .ensures) refl refl refl
+    let found = c .before .before .before .before .before .before .before .before .to-newline in
+    let behind = c .before .before .before .before .before .before .kept in
+    took (a .args .s) _ (a .args .block .now) (a .args .line .now) _ (found .result) (behind .result)
+    (found .ensures .0) (behind .ensures) (c .before .before .before .before .put-bytes .ensures) refl refl refl
     (omega arith) (sym (le-ltb _ _ (c .before .if1 .left)))
 
 pub take-spec : {M : Type 1} → statement M

@@ -24,7 +24,9 @@ shared-slice-read-if1 : tie.Need-shared-slice-read-if1 Inv-loop μ-loop
 shared-slice-read-if1 c = search needs
 
 returns : tie.Need-returns Inv-loop μ-loop
-returns c = omega (arith, here (c .before .before .before .before .args .bytes .now) (c .before .before .before .loop .i) (c .before .before .loop-test .taken) (eq-eqb _ _ (c .if1 .taken)))
+returns c =
+    let a = c .before .before in
+    omega (arith, here (a .before .before .args .bytes .now) (a .before .loop .i) (a .loop-test .taken) (eq-eqb _ _ (c .if1 .taken)))
 
 add-i : tie.Need-add-i Inv-loop μ-loop
 add-i c = search needs
@@ -33,10 +35,15 @@ loop-less : tie.Need-loop-less Inv-loop μ-loop
 loop-less c = search needs
 
 loop-again : tie.Need-loop-again Inv-loop μ-loop
-loop-again c = omega (arith, further (c .before .before .before .before .args .bytes .now) (c .before .before .before .loop .i) (c .before .before .loop-test .taken) (ne-eqb _ _ (c .if1 .left)))
+loop-again c =
+    let a = c .before .before in
+    omega (arith, further (a .before .before .args .bytes .now) (a .before .loop .i) (a .loop-test .taken) (ne-eqb _ _ (c .if1 .left)))
 
 returns-2 : tie.Need-returns-2 Inv-loop μ-loop
-returns-2 c = let e : c .before .loop .i ≡ length (c .before .before .args .bytes .now) = omega arith in omega (arith, nothing (c .before .before .args .bytes .now) (c .before .loop .i) e)
+returns-2 c =
+    let l = c .before .before .args .bytes .now in
+    let e : c .before .loop .i ≡ length l = omega arith in
+    omega (arith, nothing l (c .before .loop .i) e)
 
 pub to-newline-spec : {M : Type 1} → statement M
 to-newline-spec =

@@ -33,13 +33,18 @@ loop-less : tie.Need-loop-less Inv-loop μ-loop
 loop-less c = search needs
 
 loop-again : tie.Need-loop-again Inv-loop μ-loop
-loop-again c = (search needs, put-next _ _ (c .before .before .before .before .before .loop-test .taken) (c .before .before .before .before .before .before .loop .inv .1) (c .before .before .put .ensures))
+loop-again c =
+    let a = c .before .before .before .before .before in
+    (search needs, put-next _ _ (a .loop-test .taken) (a .before .loop .inv .1) (c .before .before .put .ensures))
 
 same-length : tie.Need-same-length Inv-loop μ-loop
 same-length c = put-length (c .before .loop .inv .1)
 
 returns : tie.Need-returns Inv-loop μ-loop
-returns c = let e : c .before .loop .i ≡ length (c .before .before .before .before .args .bytes .now) = omega arith in put-as (ap (λ (k : ℕ). take k (c .before .before .before .before .args .bytes .now)) e ∙ take-length _) (c .before .loop .inv .1)
+returns c =
+    let t = c .before .before .before .before .args .bytes .now in
+    let e : c .before .loop .i ≡ length t = omega arith in
+    put-as (ap (λ (k : ℕ). take k t) e ∙ take-length t) (c .before .loop .inv .1)
 
 pub put-bytes-spec : {M : Type 1} → statement M
 put-bytes-spec =

@@ -31,13 +31,14 @@ same-length c = search needs
 
 returns : tie.Need-returns
 returns c =
+    let k = c .before .before .before .before .before .before .before .before .before .before .decimal in
+    let gap = c .before .before .before .before .before .before .before .before .spaces in
     record {
-      places = c .before .before .before .before .before .before .before .before .before .before .decimal .result;
-      fewest = c .before .before .before .before .before .before .before .before .before .before .decimal .ensures .1 .0;
+      places = k .result;
+      fewest = k .ensures .1 .0;
       put = put-then
-          (put-as (ap (λ (k : ℕ). replicate k 32) (c .before .before .before .before .before .before .before .before .spaces .ensures))
-          (c .before .before .before .before .before .before .before .put-spaces .ensures))
-          (put-as (c .before .before .before .before .before .before .before .before .before .before .decimal .ensures .1 .1) (c .before .before .put-bytes .ensures));
+          (put-as (ap (λ (n : ℕ). replicate n 32) (gap .ensures)) (c .before .before .before .before .before .before .before .put-spaces .ensures))
+          (put-as (k .ensures .1 .1) (c .before .before .put-bytes .ensures));
     }
 
 pub put-number-spec : {M : Type 1} → statement M

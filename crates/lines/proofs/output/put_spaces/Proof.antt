@@ -29,13 +29,17 @@ loop-less : tie.Need-loop-less Inv-loop μ-loop
 loop-less c = search needs
 
 loop-again : tie.Need-loop-again Inv-loop μ-loop
-loop-again c = (search needs, put-again (c .before .before .before .before .before .loop .i) (c .before .before .before .before .before .loop .inv .1) (c .before .before .put .ensures))
+loop-again c =
+    let a = c .before .before .before .before .before in
+    (search needs, put-again (a .loop .i) (a .loop .inv .1) (c .before .before .put .ensures))
 
 same-length : tie.Need-same-length Inv-loop μ-loop
 same-length c = put-length (c .before .loop .inv .1)
 
 returns : tie.Need-returns Inv-loop μ-loop
-returns c = let e : c .before .loop .i ≡ c .before .before .before .args .n = omega arith in put-as (ap (λ (k : ℕ). replicate k 32) e) (c .before .loop .inv .1)
+returns c =
+    let e : c .before .loop .i ≡ c .before .before .before .args .n = omega arith in
+    put-as (ap (λ (k : ℕ). replicate k 32) e) (c .before .loop .inv .1)
 
 pub put-spaces-spec : {M : Type 1} → statement M
 put-spaces-spec =

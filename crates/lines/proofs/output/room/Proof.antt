@@ -14,7 +14,9 @@ flush-requires : tie.Need-flush-requires
 flush-requires c κs = search needs
 
 returns-2 : tie.Need-returns-2
-returns-2 c = c .flush .ensures ∙ sym (ap (λ (b : Bool). cond b (c .before .before .before .args .used) 0) (le-ltb _ _ (c .before .if1 .left)))
+returns-2 c =
+    let used = c .before .before .before .args .used in
+    c .flush .ensures ∙ sym (ap (λ (b : Bool). cond b used 0) (le-ltb _ _ (c .before .if1 .left)))
 
 pub room-spec : {M : Type 1} → statement M
 room-spec = tie.close (tie.spec returns flush-requires returns-2)
