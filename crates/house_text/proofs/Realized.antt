@@ -1,5 +1,5 @@
 -- Which fours some accepted text has, and that the house spelling of these is accepted and has them. The text half is `text-lemma`, the set half
--- is house `round-at` and `struct`; what validation finds in the set is carried over.
+-- is house_parts `round-at` and `struct`; what validation finds in the set is carried over.
 -- Assumes nothing.
 use mathlib.Core.Bool.{Bool, true, false, not, _&&_}
 use mathlib.Core.List.{List, [], _∷_, _++_}
