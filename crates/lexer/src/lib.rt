@@ -1,5 +1,5 @@
 // From a text to its tokens: the word list, what stands at a place, and the walk over the text.
-ghost use mathlib.Core.List.{[], map};
+ghost use mathlib.Core.List.{[], map, zipWith};
 ghost use mathlib.Core.Path.{_≡_};
 ghost use Prim.Native.Nat.{_+_, _<_, _≤_};
 ghost use lib.ListN.{length, getD, drop};
@@ -7,7 +7,7 @@ ghost use Rattle.token.specs.Token.{token as tokenOf, rows, Room, Untouched};
 ghost use Rattle.utf8.specs.Utf8.{begins, charAt};
 ghost use Rattle.lexer.specs.Words.{words as wordList, better as betterOf, longest as longestWord};
 ghost use Rattle.lexer.specs.Lexer.{isLetter, digitOf, signOf, signHead, wordHead, elem, twoDigits, oneDigit, digitIn, numberHead, headBy, headOf, sizeOf, lex};
-ghost use Rattle.lexer.specs.State.{Tables, firstPlace, padded, wordAt, scan, plan, planOf, Inserted, Emitted, Written, Scanned};
+ghost use Rattle.lexer.specs.State.{Tables, firstPlace, nextPlaces, info as infoOf, padded, wordAt, scan, plan, planOf, Inserted, Emitted, Written, Scanned};
 ghost use Rattle.utf8.specs.declared.Found.the-variants as utf8;
 use token::AUG;
 use token::COMMA;
@@ -578,8 +578,22 @@ fn scan_to_end(
     n + 1
 }
 
-// Writes the tokens of a text of at most 256 bytes; their number is returned. What lies beyond them is untouched, in each of the three
-// arrays. The word list is named here, once, and lent.
+// The word list, and what is kept of each word, to be lent. Each constant stands alone in a function, since all that follows it in the same
+// one is proved with its numbers in view.
+fn word_texts() -> [[u8; 10]; 55]
+    ensures { λ r. ⌜ r ≡ map padded wordList ⌝ }
+{
+    WORDS
+}
+
+fn word_infos() -> [[u8; 3]; 55]
+    ensures { λ r. ⌜ r ≡ zipWith infoOf wordList nextPlaces ⌝ }
+{
+    INFOS
+}
+
+// Writes the tokens of a text of at most 256 bytes; their number is returned. What lies beyond them is untouched, in each of the
+// three arrays.
 pub fn scan_tokens(text: &[u8], kinds: &mut [u8], poss: &mut [u16], lens: &mut [u16]) -> usize
     requires { ⌜ (length (now text) ≤ 256) × Room (length (now text) + 1) (now kinds) (now poss) (now lens) ⌝ }
     ensures { λ r. ⌜ Scanned (now (text .entry)) r (rows (now (kinds .entry)) (now (poss .entry)) (now (lens .entry)))
@@ -587,7 +601,7 @@ pub fn scan_tokens(text: &[u8], kinds: &mut [u8], poss: &mut [u16], lens: &mut [
     ensures { λ r. ⌜ Untouched r (now (kinds .entry)) (now (poss .entry)) (now (lens .entry))
         (now (kinds .exit)) (now (poss .exit)) (now (lens .exit)) ⌝ }
 {
-    let words = WORDS;
-    let infos = INFOS;
+    let words = word_texts();
+    let infos = word_infos();
     scan_to_end(&words, &infos, text, kinds, poss, lens)
 }
