@@ -5,13 +5,11 @@ ghost use mathlib.Core.Path.{_≡_};
 ghost use Rattle.chord.specs.Chord.{members};
 ghost use Rattle.expression.specs.Expression.{expOf};
 ghost use Rattle.step.specs.Bounds.{Sound};
-ghost use Rattle.evaluator.specs.Display.{firstSus};
+ghost use Rattle.display.specs.Display.{firstSus};
 ghost use Rattle.evaluator.specs.Evaluator.{foldLeft, evalSet};
 ghost use Rattle.evaluator.specs.State.{Sounds, Described, Seen, Answered, changeBy};
 use crate::ast::BaseForm;
 use crate::ast::form_of;
-use crate::display::display;
-use crate::display::sus_of;
 use crate::stages::add_by;
 use crate::stages::alter_by;
 use crate::stages::apply_sus;
@@ -23,6 +21,7 @@ use crate::stages::is_maj;
 use crate::stages::is_sus4;
 use crate::stages::omit_by;
 use crate::stages::prune;
+use crate::stages::sus_of;
 use chord::interval::IntervalList;
 use chord::interval::IntervalSet;
 use chord::interval::MAJOR_THIRD;
@@ -174,6 +173,6 @@ pub fn evaluate(exps: &[u32]) -> Evaluated
     Evaluated {
         bass,
         set,
-        display: display(first_sus(exps), set),
+        display: display::display(first_sus(exps), set),
     }
 }
