@@ -1,4 +1,3 @@
 -- What several proofs use.
 mod Rest
-mod Shown
 mod Walks

@@ -11,7 +11,7 @@ use Rattle.chord.specs.Interval.{Set}
 use Rattle.chord.specs.declared.note.OptionalNote.{OptionalNote}
 use Rattle.expression.specs.Expression.{expOf}
 use Rattle.expression.specs.declared.expression.Exp.{Exp}
-use Rattle.evaluator.specs.Display.{firstSus, susOf}
+use Rattle.display.specs.Display.{firstSus, susOf}
 use Rattle.evaluator.specs.Evaluator.{addBy, alterBy, any, applyForm, applySus, baseForm, bassOf, direct, evalSet, extAt, formAt, implied, isMaj, isMajor, isSus4, maxExt, omitBy, prune11, prune6, seed, slashBass, foldLeft}
 use Rattle.evaluator.specs.State.{Described, Seen}
 use Rattle.evaluator.specs.declared.ast.BaseForm.{BaseForm}

@@ -1,3 +1,2 @@
 pub mod Evaluator
-pub mod Display
 pub mod State

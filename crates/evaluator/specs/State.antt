@@ -1,19 +1,21 @@
 -- Bookkeeping of contracts between our own functions; no promise of an entry point rests on it.
--- What the code counts on: sound expressions, what it has seen of them, and the places of the display order.
-use mathlib.Core.Bool.{cond, _||_}
+-- What the code counts on: sound expressions, and what it has seen of them.
+use mathlib.Core.Bool.{_||_}
 use mathlib.Core.List.{List}
 use mathlib.Core.Path.{_≡_}
-use Prim.Native.Nat.{ℕ, _+_, _-_, _<_}
-use lib.Dec.{eqb, leb}
+use Prim.Native.Nat.{ℕ, _<_}
 use lib.ListN.{length, getD}
 use Rattle.chord.specs.Chord.{listOf, listed, members, setOf}
+use Rattle.chord.specs.Interval.{Set}
 use Rattle.expression.specs.Expression.{expOf}
 use Rattle.expression.specs.declared.expression.Exp.{Exp}
 use Rattle.step.specs.Bounds.{Sound}
-use Rattle.evaluator.specs.Display.{displayOf, firstSus}
-use Rattle.evaluator.specs.Evaluator.{any, baseForm, bassOf, direct, evalSet, extAt, formAt, isMaj, isSus4, maxExt, seed, slashBass, foldLeft}
+use Rattle.display.specs.Display.{displayOf, firstSus}
+use Rattle.evaluator.specs.Evaluator.{addBy, alterBy, any, baseForm, bassOf, direct, evalSet, extAt, formAt, isMaj, isSus4, maxExt, omitBy, seed, slashBass, foldLeft}
 use Rattle.evaluator.specs.declared.evaluator.Descriptor.{Descriptor}
 use Rattle.evaluator.specs.declared.evaluator.Evaluated.{Evaluated}
+use Rattle.evaluator.specs.declared.evaluator.Pass.the-variants as pass
+use Rattle.evaluator.specs.declared.evaluator.Pass.{Pass}
 
 -- every number stands for an expression whose interval is below 23
 abbrev pub Sounds : List ℕ → Type 0
@@ -45,6 +47,8 @@ pub record Answered (l : List Exp) (r : Evaluated) : Type 0 where
   pub whole : r .set ≡ setOf (evalSet l)
   pub list : r .display ≡ listOf (displayOf (firstSus l) (evalSet l))
 
--- the j-th of the numbers, where `high` has been moved behind `low`
-abbrev pub movedAt : ℕ → ℕ → ℕ → ℕ
-movedAt low high j = cond (leb j low) j (cond (eqb j (low + 1)) high (cond (leb j high) (j - 1) j))
+-- what an expression does to the set in one of the three walks over the expressions
+abbrev pub changeBy : Pass → Set → Exp → Set
+changeBy pass.Alterations = alterBy
+changeBy pass.Omits = omitBy
+changeBy pass.Adds = addBy

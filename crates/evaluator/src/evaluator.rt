@@ -4,13 +4,12 @@ ghost use mathlib.Core.List.{[], map};
 ghost use mathlib.Core.Path.{_≡_};
 ghost use Rattle.chord.specs.Chord.{members};
 ghost use Rattle.expression.specs.Expression.{expOf};
-ghost use Rattle.evaluator.specs.Display.{firstSus};
-ghost use Rattle.evaluator.specs.Evaluator.{foldLeft, alterBy, omitBy, addBy, evalSet};
-ghost use Rattle.evaluator.specs.State.{Sounds, Described, Seen, Answered};
+ghost use Rattle.step.specs.Bounds.{Sound};
+ghost use Rattle.display.specs.Display.{firstSus};
+ghost use Rattle.evaluator.specs.Evaluator.{foldLeft, evalSet};
+ghost use Rattle.evaluator.specs.State.{Sounds, Described, Seen, Answered, changeBy};
 use crate::ast::BaseForm;
 use crate::ast::form_of;
-use crate::display::display;
-use crate::display::sus_of;
 use crate::stages::add_by;
 use crate::stages::alter_by;
 use crate::stages::apply_sus;
@@ -22,6 +21,7 @@ use crate::stages::is_maj;
 use crate::stages::is_sus4;
 use crate::stages::omit_by;
 use crate::stages::prune;
+use crate::stages::sus_of;
 use chord::interval::IntervalList;
 use chord::interval::IntervalSet;
 use chord::interval::MAJOR_THIRD;
@@ -40,6 +40,13 @@ pub struct Descriptor {
     pub bass: OptionalNote,
 }
 
+// Which of the three walks over the expressions.
+enum Pass {
+    Alterations,
+    Omits,
+    Adds,
+}
+
 // The slash bass, the normalized set and the display list.
 pub struct Evaluated {
     pub bass: OptionalNote,
@@ -47,6 +54,7 @@ pub struct Evaluated {
     pub display: IntervalList,
 }
 
+// Before the first expression: the major triad.
 fn seed_defaults() -> Descriptor
     ensures { λ r. ⌜ Described [] r ⌝ }
 {
@@ -63,6 +71,7 @@ fn seed_defaults() -> Descriptor
     }
 }
 
+// One of the two, or both.
 fn either(a: bool, b: bool) -> bool
     ensures { λ r. ⌜ r ≡ a || b ⌝ }
 {
@@ -72,6 +81,7 @@ fn either(a: bool, b: bool) -> bool
     b
 }
 
+// What is known after one more expression.
 fn evaluate_expression(d: Descriptor, e: Exp) -> Descriptor
     ensures { λ r. ⌜ Seen d e r ⌝ }
 {
@@ -88,6 +98,7 @@ fn evaluate_expression(d: Descriptor, e: Exp) -> Descriptor
     }
 }
 
+// What all of the expressions say before the stages.
 fn evaluate_expressions(exps: &[u32]) -> Descriptor
     ensures { λ r. ⌜ Described (map expOf (now (exps .entry))) r ⌝ }
 {
@@ -100,40 +111,27 @@ fn evaluate_expressions(exps: &[u32]) -> Descriptor
     d
 }
 
-fn apply_alterations(exps: &[u32], set: IntervalSet) -> IntervalSet
-    requires { ⌜ Sounds (now exps) ⌝ }
-    ensures { λ r. ⌜ members r ≡ foldLeft alterBy (members set) (map expOf (now (exps .entry))) ⌝ }
+// One expression of a walk.
+fn change_by(pass: Pass, set: IntervalSet, e: Exp) -> IntervalSet
+    requires { ⌜ Sound e ⌝ }
+    ensures { λ r. ⌜ members r ≡ changeBy pass (members set) e ⌝ }
 {
-    let mut s = set;
-    let mut i = 0;
-    while i < exps.len() {
-        s = alter_by(s, Exp::from_number(exps[i]));
-        i += 1;
+    match pass {
+        Pass::Alterations => alter_by(set, e),
+        Pass::Omits => omit_by(set, e),
+        Pass::Adds => add_by(set, e),
     }
-    s
 }
 
-fn apply_omits(exps: &[u32], set: IntervalSet) -> IntervalSet
+// One walk over the expressions, from left to right.
+fn apply_pass(pass: Pass, exps: &[u32], set: IntervalSet) -> IntervalSet
     requires { ⌜ Sounds (now exps) ⌝ }
-    ensures { λ r. ⌜ members r ≡ foldLeft omitBy (members set) (map expOf (now (exps .entry))) ⌝ }
+    ensures { λ r. ⌜ members r ≡ foldLeft (changeBy pass) (members set) (map expOf (now (exps .entry))) ⌝ }
 {
     let mut s = set;
     let mut i = 0;
     while i < exps.len() {
-        s = omit_by(s, Exp::from_number(exps[i]));
-        i += 1;
-    }
-    s
-}
-
-fn apply_adds(exps: &[u32], set: IntervalSet) -> IntervalSet
-    requires { ⌜ Sounds (now exps) ⌝ }
-    ensures { λ r. ⌜ members r ≡ foldLeft addBy (members set) (map expOf (now (exps .entry))) ⌝ }
-{
-    let mut s = set;
-    let mut i = 0;
-    while i < exps.len() {
-        s = add_by(s, Exp::from_number(exps[i]));
+        s = change_by(pass, s, Exp::from_number(exps[i]));
         i += 1;
     }
     s
@@ -159,9 +157,9 @@ fn eval_set(exps: &[u32], d: Descriptor) -> IntervalSet
 {
     let set = d.set;
     let form = d.form;
-    let s = apply_alterations(exps, apply_sus(form.apply(set), d.sus));
+    let s = apply_pass(Pass::Alterations, exps, apply_sus(form.apply(set), d.sus));
     let t = implied(s, d.tallest, form.is_major(), d.maj);
-    prune(apply_adds(exps, apply_omits(exps, t)))
+    prune(apply_pass(Pass::Adds, exps, apply_pass(Pass::Omits, exps, t)))
 }
 
 // The bass, the set and the display list of the expressions that the numbers stand for.
@@ -175,6 +173,6 @@ pub fn evaluate(exps: &[u32]) -> Evaluated
     Evaluated {
         bass,
         set,
-        display: display(first_sus(exps), set),
+        display: display::display(first_sus(exps), set),
     }
 }

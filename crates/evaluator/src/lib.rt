@@ -1,5 +1,4 @@
-// From expressions to intervals: the base form, the stages, and the display list.
+// From expressions to intervals: the base form and the stages; the display list is of the crate `display`.
 pub mod ast;
-pub mod display;
 pub mod evaluator;
 pub mod stages;

@@ -4,6 +4,7 @@ ghost use Prim.Native.Nat.{_<_};
 ghost use Rattle.chord.specs.Chord.{members};
 ghost use Rattle.expression.specs.declared.expression.Exp.the-variants as exp;
 ghost use Rattle.step.specs.Bounds.{Sound};
+ghost use Rattle.display.specs.Display.{susOf};
 ghost use Rattle.evaluator.specs.Evaluator.{elem, alterations, direct, isSus4, isMaj, extOf, extAt, bassOf, removeThirds, applySus, alter, alterBy, imply9, imply11, imply7, implied13, implied11, implied9, implied, omit, omitBy, add, addBy, prune6, prune11};
 use chord::interval::AUGMENTED_FIFTH;
 use chord::interval::AUGMENTED_FOURTH;
@@ -119,6 +120,16 @@ pub(crate) fn bass_of(b: OptionalNote, e: Exp) -> OptionalNote
     match e {
         Exp::SlashBass(note) => OptionalNote::Some(note),
         _ => b,
+    }
+}
+
+// The interval of a sus, and k of any other.
+pub(crate) fn sus_of(e: Exp, k: u8) -> u8
+    ensures { λ r. ⌜ r ≡ susOf e k ⌝ }
+{
+    match e {
+        Exp::Sus(interval) => interval,
+        _ => k,
     }
 }
 

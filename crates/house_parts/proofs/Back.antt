@@ -9,7 +9,7 @@ use lib.Dec.{T}
 use Rattle.chord.specs.Interval.{Set, minorThird, majorThird}
 use Rattle.chord.specs.declared.note.OptionalNote.the-variants as optional
 use Rattle.chord.specs.declared.note.OptionalNote.{OptionalNote}
-use Rattle.evaluator.specs.Display.{firstSus, susOf}
+use Rattle.display.specs.Display.{firstSus, susOf}
 use Rattle.evaluator.specs.Evaluator.{bassOf, evalSet, slashBass, foldLeft}
 use Rattle.expression.specs.declared.expression.Exp.the-variants.{Power, Bass, Maj, Maj7, Minor, HalfDim, Dim, Dim7, Alt, Aug, Sus, Extension, Add, Omit, SlashBass}
 use Rattle.expression.specs.declared.expression.Exp.{Exp}

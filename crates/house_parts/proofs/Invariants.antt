@@ -11,7 +11,7 @@ use lib.ListN.{getD}
 use Rattle.chord.specs.Interval.{Set, empty, insert, remove, removeThenAdd}
 use Rattle.chord.specs.Note.{noteOf}
 use Rattle.chord.specs.declared.note.Note.{Note}
-use Rattle.evaluator.specs.Display.{firstSus, susOf}
+use Rattle.display.specs.Display.{firstSus, susOf}
 use Rattle.evaluator.specs.Evaluator.{foldLeft, any, direct, alterBy, omitBy, addBy, applyForm, applySus, imply, imply7, imply9, imply11, implied, prune6, prune11, evalSet, seed, maxExt, baseForm, isMajor, isMaj, isSus4, removeThirds}
 use Rattle.evaluator.specs.declared.ast.BaseForm.the-variants as form
 use Rattle.evaluator.specs.declared.ast.BaseForm.{BaseForm}

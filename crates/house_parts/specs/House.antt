@@ -9,7 +9,7 @@ use Rattle.chord.specs.Note.{noteOf}
 use Rattle.chord.specs.declared.note.Note.{Note}
 use Rattle.chord.specs.declared.note.OptionalNote.the-variants as optional
 use Rattle.chord.specs.declared.note.OptionalNote.{OptionalNote}
-use Rattle.evaluator.specs.Display.{displayOf}
+use Rattle.display.specs.Display.{displayOf}
 use Rattle.evaluator.specs.Evaluator.{elem}
 use Rattle.expression.specs.declared.expression.Exp.the-variants.{Minor, Dim7, Sus, Extension, Add, Omit, SlashBass}
 use Rattle.expression.specs.declared.expression.Exp.{Exp}

@@ -87,7 +87,7 @@ fn has_clauses(set: IntervalSet, k: SusKind) -> bool
 fn is_display(list: IntervalList, set: IntervalSet, k: SusKind) -> bool
     ensures { λ r. ⌜ r ≡ sameList (listed list) (displayBy k (members set)) ⌝ }
 {
-    list.same(evaluator::display::display(k.sus(), set))
+    list.same(display::display(k.sus(), set))
 }
 
 fn is_realizable_by(k: SusKind, set: IntervalSet, list: IntervalList) -> bool

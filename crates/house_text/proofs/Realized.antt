@@ -15,7 +15,7 @@ use Rattle.chord.specs.Interval.{Set, empty}
 use Rattle.chord.specs.declared.note.Note.{Note}
 use Rattle.chord.specs.declared.note.OptionalNote.the-variants.{None, Some}
 use Rattle.chord.specs.declared.note.OptionalNote.{OptionalNote}
-use Rattle.evaluator.specs.Display.{displayOf, firstSus}
+use Rattle.display.specs.Display.{displayOf, firstSus}
 use Rattle.evaluator.specs.Evaluator.{evalSet}
 use Rattle.expression.specs.declared.expression.Exp.{Exp}
 use Rattle.expression.specs.declared.parser_error.ParserError.the-variants.{InconsistentExtension}

@@ -7,7 +7,7 @@ use lib.Dec.{ltb}
 use lib.ListN.{length}
 use Rattle.chord.specs.Chord.{Four, noChord}
 use Rattle.chord.specs.declared.note.OptionalNote.{OptionalNote}
-use Rattle.evaluator.specs.Display.{displayOf, firstSus}
+use Rattle.display.specs.Display.{displayOf, firstSus}
 use Rattle.evaluator.specs.Evaluator.{evalSet, slashBass}
 use Rattle.expression.specs.declared.expression.Exp.{Exp}
 use Rattle.folding.specs.Folding.{preProcess}

@@ -150,7 +150,7 @@ fn with_sus(
     buffer: &mut [u8],
     errs: &mut [u16],
 ) -> Counts {
-    let list = evaluator::display::display(k, set);
+    let list = display::display(k, set);
     if list.same(plain) {
         return c;
     }
@@ -172,7 +172,7 @@ fn with_each_sus(
 
 // The set with each display list that it has.
 fn with_lists(c: Counts, set: IntervalSet, buffer: &mut [u8], errs: &mut [u16]) -> Counts {
-    let plain = evaluator::display::display(0, set);
+    let plain = display::display(0, set);
     let a = with_list(c, set, plain, buffer, errs);
     with_each_sus(a, set, plain, buffer, errs)
 }

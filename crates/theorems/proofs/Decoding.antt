@@ -20,7 +20,7 @@ use Rattle.chord.specs.declared.note.OptionalNote.the-variants.{None, Some}
 use Rattle.chord.specs.declared.note.OptionalNote.{OptionalNote}
 use Rattle.chord.specs.declared.note.RootModifier.the-variants.{Natural, Sharp, Flat}
 use Rattle.chord.specs.declared.note.RootModifier.{RootModifier}
-use Rattle.evaluator.specs.Display.{chosen, displayOf, order, shown}
+use Rattle.display.specs.Display.{chosen, displayOf, order, shown}
 use Rattle.house_parts.proofs.Bools.{and-left, and-right}
 use Rattle.house_parts.specs.House.{displayBy, kindIn, susBy}
 use Rattle.house_parts.proofs.Low.{Low}

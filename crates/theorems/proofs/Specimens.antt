@@ -2,7 +2,7 @@
 -- Assumes nothing.
 use mathlib.Core.Path.{refl}
 use Rattle.chord.specs.Interval.{insert, remove}
-use Rattle.evaluator.specs.Display.{displayOf, order}
+use Rattle.display.specs.Display.{displayOf, order}
 use Rattle.folding.specs.Folding.{concat, count, foldOn, isMaj, join}
 use Rattle.lexer.specs.Lexer.{elem, headOf, isDigit, isLetter, lex, signOf}
 use Rattle.lexer.specs.Words.{longestOf, words}

@@ -12,8 +12,8 @@ apply-requires c κs = search needs
 apply-sus-requires : tie.Need-apply-sus-requires
 apply-sus-requires c κs = search needs
 
-apply-alterations-requires : tie.Need-apply-alterations-requires
-apply-alterations-requires c κs = search needs
+apply-pass-requires : tie.Need-apply-pass-requires
+apply-pass-requires c κs = search needs
 
 is-major-requires : tie.Need-is-major-requires
 is-major-requires c κs = search needs
@@ -21,11 +21,11 @@ is-major-requires c κs = search needs
 implied-requires : tie.Need-implied-requires
 implied-requires c κs = search needs
 
-apply-omits-requires : tie.Need-apply-omits-requires
-apply-omits-requires c κs = search needs
+apply-pass-requires-2 : tie.Need-apply-pass-requires-2
+apply-pass-requires-2 c κs = search needs
 
-apply-adds-requires : tie.Need-apply-adds-requires
-apply-adds-requires c κs = search needs
+apply-pass-requires-3 : tie.Need-apply-pass-requires-3
+apply-pass-requires-3 c κs = search needs
 
 prune-requires : tie.Need-prune-requires
 prune-requires c κs = search needs
@@ -33,7 +33,7 @@ prune-requires c κs = search needs
 returns : tie.Need-returns
 returns c =
     let d = c .before .before .before .before .before .before .before .before .before .before .pre .1 in
-    staged (map expOf (c .before .before .before .before .before .before .before .before .before .before .args .exps .now)) (d .set) (d .form) (d .sus) (d .maj) (d .ext) (c .before .before .before .before .before .before .before .apply .ensures) (c .before .before .before .before .before .before .apply-sus .ensures) (c .before .before .before .before .before .apply-alterations .ensures) (c .before .before .before .before .is-major .ensures) (c .before .before .before .implied .ensures) (c .before .before .apply-omits .ensures) (c .before .apply-adds .ensures) (c .prune .ensures)
+    staged (map expOf (c .before .before .before .before .before .before .before .before .before .before .args .exps .now)) (d .set) (d .form) (d .sus) (d .maj) (d .ext) (c .before .before .before .before .before .before .before .apply .ensures) (c .before .before .before .before .before .before .apply-sus .ensures) (c .before .before .before .before .before .apply-pass .ensures) (c .before .before .before .before .is-major .ensures) (c .before .before .before .implied .ensures) (c .before .before .apply-pass2 .ensures) (c .before .apply-pass3 .ensures) (c .prune .ensures)
 
 pub eval-set-spec : {M : Type 1} → statement M
 eval-set-spec =
@@ -41,10 +41,10 @@ eval-set-spec =
     (tie.spec
     apply-requires
     apply-sus-requires
-    apply-alterations-requires
+    apply-pass-requires
     is-major-requires
     implied-requires
-    apply-omits-requires
-    apply-adds-requires
+    apply-pass-requires-2
+    apply-pass-requires-3
     prune-requires
     returns)

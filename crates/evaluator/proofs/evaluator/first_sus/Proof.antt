@@ -2,7 +2,7 @@
 use Prim.Native.Nat.{_-_, _≤_, suc, ℕ}
 use Rattle.evaluator.proofs.Walks.{from, from-none, sus-turn}
 use Rattle.evaluator.proofs.evaluator.first_sus.Statement.{statement}
-use Rattle.evaluator.specs.Display.{firstSus, susOf}
+use Rattle.display.specs.Display.{firstSus, susOf}
 use Rattle.expression.specs.declared.expression.Exp.{Exp}
 use borrow.Author.Needs.{needs}
 use lib.ListN.{length}

@@ -3,7 +3,7 @@
 use mathlib.Core.Path.{ap, _∙_}
 use Prim.Native.Nat.{ℕ}
 use Rattle.chord.specs.Chord.{listed, members}
-use Rattle.evaluator.specs.Display.{displayOf}
+use Rattle.display.specs.Display.{displayOf}
 use Rattle.house_parts.specs.Question.{sameList}
 use Rattle.house_parts.proofs.Tests.{same-test}
 use borrow.Author.Needs.{needs}

@@ -4,10 +4,10 @@ use mathlib.Core.List.{[], _∷_}
 use mathlib.Core.Path.{refl}
 use borrow.Author.Needs.{needs}
 use Rattle.expression.specs.declared.expression.Exp.{Exp}
-use Rattle.evaluator.specs.Display.{susOf}
+use Rattle.display.specs.Display.{susOf}
 use Rattle.evaluator.proofs.Rest.{rest}
-use Rattle.evaluator.proofs.display.sus_of.Statement.{statement}
-use Rattle.evaluator.proofs.display.sus_of.Tie as tie
+use Rattle.evaluator.proofs.stages.sus_of.Statement.{statement}
+use Rattle.evaluator.proofs.stages.sus_of.Tie as tie
 
 enum-known-e : tie.Need-enum-known-e
 enum-known-e c = search needs

@@ -3,9 +3,9 @@
 use Prim.Native.Nat.{_+_, _-_, _≤_, _<_, suc, ℕ}
 use Rattle.chord.specs.Chord.{listOf, listed, members}
 use Rattle.chord.proofs.Record.{list-whole}
-use Rattle.evaluator.proofs.Shown.{append-nil, display-turn, order-length, zeros-behind}
-use Rattle.evaluator.proofs.display.in_order.Statement.{statement}
-use Rattle.evaluator.specs.Display.{chosen, displayOf, order, shown}
+use Rattle.display.proofs.Order.{append-nil, display-turn, order-length, zeros-behind}
+use Rattle.display.proofs.in_order.Statement.{statement}
+use Rattle.display.specs.Display.{chosen, displayOf, order, shown}
 use borrow.Author.Needs.{needs}
 use borrow.Author.Tests.{not-true, not-false}
 use lib.ListN.{drop, drop-of-length-le, length, length-set, replicate, set, take}
@@ -14,7 +14,7 @@ use mathlib.Core.Bool.{cond}
 use mathlib.Core.List.{List, [], _∷_, _++_}
 use mathlib.Core.Path.{_∙_, _≡_, ap, refl, sym}
 use native.Mathlib.Omega.{arith}
-use Rattle.evaluator.proofs.display.in_order.Tie as tie
+use Rattle.display.proofs.in_order.Tie as tie
 
 abbrev Inv-loop : tie.InvT-loop
 Inv-loop k s l₀ j₀ l j =

@@ -1,8 +1,8 @@
 -- Each return by its tests.
-use Rattle.evaluator.proofs.display.moved.Statement.{statement}
+use Rattle.display.proofs.moved.Statement.{statement}
 use borrow.Author.Needs.{needs}
 use borrow.Author.Tests.{eq-eqb, le-leb, lt-leb, ne-eqb}
-use Rattle.evaluator.proofs.display.moved.Tie as tie
+use Rattle.display.proofs.moved.Tie as tie
 
 returns : tie.Need-returns
 returns c = rw (le-leb _ _ (c .if1 .taken))

@@ -1,10 +1,10 @@
 -- By the sus; each order is held to its definition by computation.
-use Rattle.evaluator.proofs.Shown.{at-flat2, at-plain, at-second, at-sharp4}
-use Rattle.evaluator.proofs.display.order_at.Statement.{statement}
+use Rattle.display.proofs.Order.{at-flat2, at-plain, at-second, at-sharp4}
+use Rattle.display.proofs.order_at.Statement.{statement}
 use borrow.Author.Needs.{needs}
 use mathlib.Core.Path.{_∙_}
 use native.Mathlib.Omega.{arith}
-use Rattle.evaluator.proofs.display.order_at.Tie as tie
+use Rattle.display.proofs.order_at.Tie as tie
 
 moved-requires : tie.Need-moved-requires
 moved-requires c κs = search needs

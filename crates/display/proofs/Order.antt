@@ -1,19 +1,19 @@
 -- The order in which the numbers are shown, and the walk over it.
 -- Assumes nothing.
 use mathlib.Core.Bool.{Bool, true, false, _&&_, cond}
-use mathlib.Core.List.{List, [], _∷_, _++_, append-assoc, map}
+use mathlib.Core.List.{List, [], _∷_, _++_, append-assoc}
 use mathlib.Core.Path.{_≡_, refl, sym, ap, _∙_}
 use Prim.Native.Nat.{ℕ, zero, suc, _+_, _-_, _<_}
 use native.Mathlib.Nat.{not-suc-le-zero, le-of-suc-le-suc}
 use native.Mathlib.Omega.{arith}
 use lib.Dec.{T, eqb, eqb→eq, leb, ltb, ltb→lt}
-use lib.ListN.{length, drop, getD, length-map, replicate, set}
+use lib.ListN.{length, drop, getD, replicate, set}
 use lib.Seq.{drop-cons, drop-drop, drop-set-lt}
 use mir.Facts.{and-yes}
 use borrow.Author.Tests.{ne-eqb}
 use Rattle.chord.specs.Interval.{Set, semitones}
-use Rattle.evaluator.specs.Display.{chosen, displayOf, numbers, order, place, shown, sortBy}
-use Rattle.evaluator.specs.State.{movedAt}
+use Rattle.display.specs.Display.{chosen, displayOf, numbers, order, place, shown, sortBy}
+use Rattle.display.specs.State.{movedAt}
 
 -- the entries of l are those of f, and below 23
 abbrev lists : (ℕ → ℕ) → List ℕ → Bool
@@ -101,7 +101,3 @@ pub zeros-behind : (v : List ℕ) (n y : ℕ) → n < 23 → drop n v ≡ replic
 zeros-behind v n y h z =
     let e : 23 - n ≡ suc (23 - (n + 1)) = omega arith in
     drop-set-lt (n + 1) v n y (omega arith) ∙ sym (drop-drop 1 n v) ∙ ap (drop 1) (z ∙ ap (λ (m : ℕ). replicate m 0) e)
-
--- the length that owning an array field tells, said of the field
-pub sized : (l : List ℕ) (n : ℕ) → length (map (λ (v : ℕ). v) l) ≡ n → length l ≡ n
-sized l n e = sym (length-map l (λ v. v)) ∙ e

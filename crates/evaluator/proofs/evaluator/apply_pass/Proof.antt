@@ -2,20 +2,21 @@
 use Prim.Native.Nat.{_+_, _-_, _≤_, suc}
 use Rattle.chord.specs.Chord.{members}
 use Rattle.evaluator.proofs.Walks.{from, from-none, walk-turn}
-use Rattle.evaluator.proofs.evaluator.apply_adds.Statement.{statement}
-use Rattle.evaluator.specs.Evaluator.{addBy, foldLeft}
+use Rattle.evaluator.proofs.evaluator.apply_pass.Statement.{statement}
+use Rattle.evaluator.specs.Evaluator.{foldLeft}
+use Rattle.evaluator.specs.State.{changeBy}
 use borrow.Author.Needs.{needs}
 use lib.ListN.{length}
 use mathlib.Core.Path.{_∙_, _≡_, ap, refl, sym}
 use native.Mathlib.Omega.{arith}
-use Rattle.evaluator.proofs.evaluator.apply_adds.Tie as tie
+use Rattle.evaluator.proofs.evaluator.apply_pass.Tie as tie
 
 abbrev Inv-loop : tie.InvT-loop
-Inv-loop exps s₀ i₀ s i =
-    (i ≤ length exps) × (foldLeft addBy (members s) (from i exps) ≡ foldLeft addBy (members s₀) (from 0 exps))
+Inv-loop pass exps s₀ i₀ s i =
+    (i ≤ length exps) × (foldLeft (changeBy pass) (members s) (from i exps) ≡ foldLeft (changeBy pass) (members s₀) (from 0 exps))
 
 abbrev μ-loop : tie.MeasureT-loop
-μ-loop exps s₀ i₀ s i = length exps - i
+μ-loop pass exps s₀ i₀ s i = length exps - i
 
 loop-holds : tie.Need-loop-holds Inv-loop μ-loop
 loop-holds c = (omega arith, refl)
@@ -29,8 +30,8 @@ shared-slice-read-from-number c = search needs
 from-number-requires : tie.Need-from-number-requires Inv-loop μ-loop
 from-number-requires c κs = search needs
 
-add-by-requires : tie.Need-add-by-requires Inv-loop μ-loop
-add-by-requires c κs = rw (c .from-number .ensures) (c .before .before .before .before .before .pre (c .before .before .before .loop .i) (c .before .before .loop-test .taken))
+change-by-requires : tie.Need-change-by-requires Inv-loop μ-loop
+change-by-requires c κs = rw (c .from-number .ensures) (c .before .before .before .before .before .pre (c .before .before .before .loop .i) (c .before .before .loop-test .taken))
 
 add-i : tie.Need-add-i Inv-loop μ-loop
 add-i c = search needs
@@ -40,21 +41,23 @@ loop-less c = omega (arith, c .before .before .before .loop-test .taken)
 
 loop-again : tie.Need-loop-again Inv-loop μ-loop
 loop-again c =
+    let pass = c .before .before .before .before .before .before .args .pass in
     let xs = c .before .before .before .before .before .before .args .exps .now in
     let i = c .before .before .before .before .loop .i in
     let s = c .before .before .before .before .loop .s in
     let k : suc i ≡ i + 1 = omega arith in
-    let e = c .add-by .ensures ∙ ap (addBy (members s)) (c .before .from-number .ensures) in
-    (omega (arith, c .before .before .before .loop-test .taken), rw (← k) (walk-turn addBy (members s) (members (c .add-by .result)) xs i (c .before .before .before .loop-test .taken) e ∙ c .before .before .before .before .loop .inv .1))
+    let e = c .change-by .ensures ∙ ap (changeBy pass (members s)) (c .before .from-number .ensures) in
+    (omega (arith, c .before .before .before .loop-test .taken), rw (← k) (walk-turn (changeBy pass) (members s) (members (c .change-by .result)) xs i (c .before .before .before .loop-test .taken) e ∙ c .before .before .before .before .loop .inv .1))
 
 returns : tie.Need-returns Inv-loop μ-loop
 returns c =
+    let pass = c .before .before .before .args .pass in
     let xs = c .before .before .before .args .exps .now in
     let s = c .before .loop .s in
-    ap (λ l. foldLeft addBy (members s) l) (sym (from-none xs (c .before .loop .i) (c .loop-test .left))) ∙ c .before .loop .inv .1
+    ap (λ l. foldLeft (changeBy pass) (members s) l) (sym (from-none xs (c .before .loop .i) (c .loop-test .left))) ∙ c .before .loop .inv .1
 
-pub apply-adds-spec : {M : Type 1} → statement M
-apply-adds-spec =
+pub apply-pass-spec : {M : Type 1} → statement M
+apply-pass-spec =
     tie.close
     (tie.spec
     Inv-loop
@@ -63,7 +66,7 @@ apply-adds-spec =
     mul-from-number
     shared-slice-read-from-number
     from-number-requires
-    add-by-requires
+    change-by-requires
     add-i
     loop-less
     loop-again

@@ -1,7 +1,7 @@
 -- By the sus, and by the interval that it shows.
-use Rattle.evaluator.proofs.display.shown.Statement.{statement}
+use Rattle.display.proofs.shown.Statement.{statement}
 use borrow.Author.Tests.{ne-eqb}
-use Rattle.evaluator.proofs.display.shown.Tie as tie
+use Rattle.display.proofs.shown.Tie as tie
 
 returns : tie.Need-returns
 returns c = rw (c .before .if1 .taken, c .if2 .taken)

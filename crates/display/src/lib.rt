@@ -3,8 +3,8 @@ ghost use mathlib.Core.Path.{_≡_};
 ghost use Prim.Native.Nat.{_+_, _<_};
 ghost use lib.ListN.{getD};
 ghost use Rattle.chord.specs.Chord.{members, listed, listOf};
-ghost use Rattle.evaluator.specs.Display.{shown, order, displayOf, susOf};
-ghost use Rattle.evaluator.specs.State.{movedAt};
+ghost use Rattle.display.specs.Display.{shown, order, displayOf};
+ghost use Rattle.display.specs.State.{movedAt};
 use chord::interval::AUGMENTED_FOURTH;
 use chord::interval::FLAT_NINTH;
 use chord::interval::IntervalList;
@@ -13,16 +13,6 @@ use chord::interval::MAJOR_SECOND;
 use chord::interval::MINOR_SECOND;
 use chord::interval::NINTH;
 use chord::interval::SHARP_ELEVENTH;
-use expression::expression::Exp;
-
-pub(crate) fn sus_of(e: Exp, k: u8) -> u8
-    ensures { λ r. ⌜ r ≡ susOf e k ⌝ }
-{
-    match e {
-        Exp::Sus(interval) => interval,
-        _ => k,
-    }
-}
 
 // What the interval i is shown as, where the first sus is of the interval k.
 fn shown(k: u8, i: u8) -> u8

@@ -3,10 +3,10 @@ use mathlib.Core.Path.{sym, ap, _∙_}
 use Prim.Native.Nat.{ℕ}
 use borrow.Author.Needs.{needs}
 use Rattle.chord.specs.Chord.{listOf, members}
-use Rattle.evaluator.specs.Display.{displayOf}
-use Rattle.evaluator.proofs.Shown.{shown-plain}
-use Rattle.evaluator.proofs.display.display.Statement.{statement}
-use Rattle.evaluator.proofs.display.display.Tie as tie
+use Rattle.display.specs.Display.{displayOf}
+use Rattle.display.proofs.Order.{shown-plain}
+use Rattle.display.proofs.display.Statement.{statement}
+use Rattle.display.proofs.display.Tie as tie
 
 in-order-requires : tie.Need-in-order-requires
 in-order-requires c κs = search needs
