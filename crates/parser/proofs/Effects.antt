@@ -22,11 +22,11 @@ use Rattle.step.specs.declared.effect.Effect.{Effect}
 use Rattle.step.specs.declared.effect.Gains.the-variants.{None, One, Two}
 use Rattle.step.specs.declared.effect.Gains.{Gains}
 use Rattle.step.specs.declared.effect.Here.{Here}
-use Rattle.step.specs.declared.step.Bracket.the-variants.{Opens, Closes, Ends, Other}
-use Rattle.step.specs.declared.step.Bracket.{Bracket}
 use Rattle.lookahead.specs.declared.Ahead.{Ahead}
 use Rattle.lookahead.specs.declared.Next.{Next}
 use Rattle.token.specs.Token.{typeOf}
+use Rattle.token.specs.declared.Bracket.the-variants.{Opens, Closes, Ends, Other}
+use Rattle.token.specs.declared.Bracket.{Bracket}
 use Rattle.token.specs.declared.TokenType.the-variants as type
 use Rattle.token.specs.declared.TokenType.{TokenType}
 use Rattle.parser.specs.Parser.{Parsing, errorOf, gainsOf, rootEffect}

@@ -10,7 +10,6 @@ use Rattle.chord.specs.declared.note.OptionalNote.the-variants as optional
 use Rattle.chord.specs.declared.note.OptionalNote.{OptionalNote}
 use Rattle.step.proofs.Laws.{inside-small, inside-sound, step-small, step-sound}
 use Rattle.step.specs.Bounds.{Small, Sound, SoundGains, gainsCount, susBit}
-use Rattle.step.specs.Step.{bracketKind}
 use Rattle.step.specs.declared.effect.Effect.{Effect}
 use Rattle.step.specs.declared.effect.Gains.the-variants as gains
 use Rattle.step.specs.declared.effect.Gains.{Gains}
@@ -19,7 +18,7 @@ use Rattle.step.specs.declared.effect.OptionalError.the-variants as error
 use Rattle.step.specs.declared.effect.OptionalError.{OptionalError}
 use Rattle.lookahead.specs.declared.Ahead.{Ahead}
 use Rattle.lookahead.specs.declared.Next.{Next}
-use Rattle.token.specs.Token.{Token, typeOf}
+use Rattle.token.specs.Token.{Token, bracketKind, typeOf}
 use Rattle.token.specs.declared.TokenType.{TokenType}
 use Rattle.parser.specs.All.{All}
 use Rattle.parser.specs.Parser.{Parsing, aheadOf, applied, blank, effectAt, errorOf, gainsOf, hereOf, nextAt, parseOf, rootEffect, rootOf, skipping, stackTurn, tokenTurn, walk}

@@ -12,14 +12,14 @@ use Rattle.chord.specs.declared.note.OptionalNote.{OptionalNote}
 use Rattle.chord.specs.declared.note.RootModifier.{RootModifier}
 use Rattle.lookahead.specs.Next.{noteFrom, signIn}
 use Rattle.expression.specs.Expression.{expNumber}
-use Rattle.step.specs.Step.{bracketKind, insideOf}
+use Rattle.step.specs.Step.{insideOf}
 use Rattle.step.specs.declared.effect.Effect.{Effect}
 use Rattle.step.specs.declared.effect.Here.{Here}
 use Rattle.lookahead.specs.declared.Ahead.{Ahead}
 use Rattle.lookahead.specs.declared.Next.{Next}
-use Rattle.step.specs.declared.step.Bracket.the-variants.{Opens, Closes, Ends, Other}
-use Rattle.step.specs.declared.step.Bracket.{Bracket}
-use Rattle.token.specs.Token.{Token, rows, typeOf}
+use Rattle.token.specs.Token.{Token, bracketKind, rows, typeOf}
+use Rattle.token.specs.declared.Bracket.the-variants.{Opens, Closes, Ends, Other}
+use Rattle.token.specs.declared.Bracket.{Bracket}
 use Rattle.token.specs.declared.TokenType.{TokenType}
 use Rattle.parser.specs.Parser.{Parsing, aheadOf, applied, blank, effectAt, ends, enter, leave, nextAt, opens, parseOf, rootEffect, rootOf, skipping, walk}
 use Rattle.parser.specs.State.{EffectDone, Kept, Ready, TookToken, Read, Parsed, aheadIn, bracketBy, bracketIn, effectIn, hereIn, nextIn, stackBy, start, view}

@@ -13,7 +13,7 @@ use Rattle.expression.specs.ParserError.{numbersOf}
 use Rattle.expression.specs.declared.expression.Exp.{Exp}
 use Rattle.expression.specs.declared.parser_error.ParserError.the-variants.{MissingRootNote}
 use Rattle.lookahead.specs.Next.{isSign, nextOf, noteFrom, signIn}
-use Rattle.step.specs.Step.{bracketKind, insideOf, stepOf}
+use Rattle.step.specs.Step.{insideOf, stepOf}
 use Rattle.step.specs.declared.context.Context.the-variants as context
 use Rattle.step.specs.declared.context.Context.{Context}
 use Rattle.step.specs.declared.effect.Effect.{Effect}
@@ -24,9 +24,9 @@ use Rattle.step.specs.declared.effect.OptionalError.the-variants as error
 use Rattle.step.specs.declared.effect.OptionalError.{OptionalError}
 use Rattle.lookahead.specs.declared.Ahead.{Ahead}
 use Rattle.lookahead.specs.declared.Next.{Next}
-use Rattle.step.specs.declared.step.Bracket.the-variants.{Opens, Closes, Ends, Other}
-use Rattle.step.specs.declared.step.Bracket.{Bracket}
-use Rattle.token.specs.Token.{Token, at, typeOf}
+use Rattle.token.specs.Token.{Token, at, bracketKind, typeOf}
+use Rattle.token.specs.declared.Bracket.the-variants.{Opens, Closes, Ends, Other}
+use Rattle.token.specs.declared.Bracket.{Bracket}
 use Rattle.token.specs.declared.TokenType.{TokenType}
 
 -- what has been found so far, and how many of the tokens to come are taken already; an error is four numbers

@@ -11,15 +11,15 @@ use Rattle.expression.specs.Expression.{expNumber, expOf}
 use Rattle.expression.specs.declared.expression.Exp.{Exp}
 use Rattle.step.specs.Bounds.{gainsCount, susBit}
 use Rattle.lookahead.specs.Next.{nextOf}
-use Rattle.step.specs.Step.{bracketKind, insideOf}
+use Rattle.step.specs.Step.{insideOf}
 use Rattle.step.specs.declared.context.Context.the-variants as context
 use Rattle.step.specs.declared.effect.Effect.{Effect}
 use Rattle.step.specs.declared.effect.Here.{Here}
 use Rattle.lookahead.specs.declared.Ahead.{Ahead}
 use Rattle.lookahead.specs.declared.Next.{Next}
-use Rattle.step.specs.declared.step.Bracket.the-variants.{Other}
-use Rattle.step.specs.declared.step.Bracket.{Bracket}
-use Rattle.token.specs.Token.{Token, Ranged, rows, typeOf}
+use Rattle.token.specs.Token.{Token, Ranged, bracketKind, rows, typeOf}
+use Rattle.token.specs.declared.Bracket.the-variants.{Other}
+use Rattle.token.specs.declared.Bracket.{Bracket}
 use Rattle.token.specs.declared.TokenType.the-variants as type
 use Rattle.token.specs.declared.TokenType.{TokenType}
 use Rattle.parser.specs.Parser.{Parsing, applied, enter, lastSix, parseOf, rootOf, skipping, walk}

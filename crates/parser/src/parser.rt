@@ -20,10 +20,10 @@ use step::context::Context;
 use step::effect::Effect;
 use step::effect::Gains;
 use step::effect::OptionalError;
-use step::step::Bracket;
-use step::step::bracket_kind;
 use step::step::process_inside;
+use token::Bracket;
 use token::TokenType;
+use token::bracket_kind;
 
 // How many errors and expressions there are, and the root.
 pub struct ParseResult {

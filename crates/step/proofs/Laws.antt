@@ -12,6 +12,8 @@ use Rattle.chord.specs.declared.note.OptionalNote.{OptionalNote, the-variants.S
 use Rattle.chord.specs.declared.note.RootModifier.{RootModifier, the-variants.Natural, the-variants.Sharp, the-variants.Flat}
 use Rattle.lookahead.specs.declared.Ahead.{Ahead}
 use Rattle.lookahead.specs.declared.Next.{Next}
+use Rattle.token.specs.declared.Bracket.the-variants.{Opens, Closes, Ends, Other}
+use Rattle.token.specs.declared.Bracket.{Bracket}
 use Rattle.token.specs.declared.TokenType.the-variants as type
 use Rattle.token.specs.declared.TokenType.{TokenType}
 use Rattle.step.proofs.Count.{near}
@@ -20,8 +22,7 @@ use Rattle.lookahead.specs.Next.{isEnd, isMaj7, isNumber, isSign, noteFrom, num
 use Rattle.step.specs.Step.{addInterval, addSigned, addTarget, insideOf, intervalAlone, isPower, thenEnd, modifierStep, noteStep, omitTarget, placed, sixNine, stepOf, susAllows}
 use Rattle.step.specs.declared.context.Context.the-variants as context
 use Rattle.step.specs.declared.context.GroupKind.the-variants as group
-use Rattle.step.specs.declared.step.Bracket.the-variants.{Opens, Closes, Ends, Other}
-use Rattle.step.specs.declared.{context.Context.Context, context.GroupKind.GroupKind, effect.Effect.Effect, effect.Here.Here, step.Bracket.Bracket}
+use Rattle.step.specs.declared.{context.Context.Context, context.GroupKind.GroupKind, effect.Effect.Effect, effect.Here.Here}
 
 -- both laws of an effect
 abbrev Good : Here → Effect → Type 0

@@ -12,6 +12,8 @@ use Rattle.chord.specs.declared.note.RootModifier.the-variants.{Natural, Sharp,
 use Rattle.chord.specs.declared.note.RootModifier.{RootModifier}
 use Rattle.expression.specs.declared.expression.Exp.the-variants.{Power, Bass, Maj, Maj7, Minor, HalfDim, Dim, Dim7, Alt, Aug, Sus, Extension, Add, Omit, SlashBass}
 use Rattle.expression.specs.declared.parser_error.ParserError.the-variants.{IllegalToken, UnexpectedNote, InvalidExtension, UnexpectedModifier, MissingAddTarget, IllegalOrMissingOmitTarget, IllegalSlashNotation, UnexpectedClosingParenthesis, MissingClosingParenthesis, NestedParenthesis}
+use Rattle.token.specs.declared.Bracket.the-variants.{Opens, Closes, Ends, Other}
+use Rattle.token.specs.declared.Bracket.{Bracket}
 use Rattle.token.specs.declared.TokenType.the-variants as type
 use Rattle.token.specs.declared.TokenType.{TokenType}
 use Rattle.step.specs.Context.{isNone, memberOf, onComma, startGroup}
@@ -25,8 +27,6 @@ use Rattle.step.specs.declared.effect.Effect.{Effect}
 use Rattle.step.specs.declared.effect.Here.{Here}
 use Rattle.lookahead.specs.declared.Ahead.{Ahead}
 use Rattle.lookahead.specs.declared.Next.{Next}
-use Rattle.step.specs.declared.step.Bracket.the-variants.{Opens, Closes, Ends, Other}
-use Rattle.step.specs.declared.step.Bracket.{Bracket}
 
 -- `add_interval` outside sus and active groups: the fourth is sus, and #4 is not allowed
 abbrev pub intervalAlone : Here → ℕ → ℕ → Effect
@@ -173,32 +173,6 @@ stepOf type.Comma h a = commaStep h
 stepOf type.Bass h a = pushing h Bass
 stepOf type.Illegal h a = failing h (IllegalToken (h .pos))
 stepOf type.Eof h a = kept h
-
--- what `lparen` asks of each token in its bracket
-abbrev pub bracketKind : TokenType → Bracket
-bracketKind (type.Note l) = Other
-bracketKind type.Sharp = Other
-bracketKind type.Flat = Other
-bracketKind type.Aug = Other
-bracketKind type.Dim = Other
-bracketKind type.Dim7 = Other
-bracketKind type.HalfDim = Other
-bracketKind (type.Extension n) = Other
-bracketKind type.Add = Other
-bracketKind type.Omit = Other
-bracketKind type.Alt = Other
-bracketKind type.Sus = Other
-bracketKind type.Minor = Other
-bracketKind type.Hyphen = Other
-bracketKind type.Maj = Other
-bracketKind type.Maj7 = Other
-bracketKind type.Slash = Other
-bracketKind type.LParent = Opens
-bracketKind type.RParent = Closes
-bracketKind type.Comma = Other
-bracketKind type.Bass = Other
-bracketKind type.Illegal = Other
-bracketKind type.Eof = Ends
 
 -- `lparen`, in the bracket opened at q: "the innermost open bracket meets End and gives kind 16 at its own position"; "An inner
 -- bracket gives kind 17 at the outer one's position and is still read."

@@ -4,7 +4,7 @@ ghost use Prim.Native.Nat.{_+_, _<_};
 ghost use lib.Signed.{mag, ltZ};
 ghost use lib.IntN.{pos, _-ℤ_};
 ghost use Rattle.step.specs.Effect.{counting, kept, pushing, taking};
-ghost use Rattle.step.specs.Step.{intervalAlone, susAllows, intervalInSus, addInterval, placed, modifierStep, isPower, numberStep, augStep, hyphenStep, susStep, omitTarget, omitStep, addTarget, addSigned, addStep, sixNine, thenEnd, bassStep, slashStep, openStep, matchedClose, unmatchedClose, commaStep, stepOf, insideOf, bracketKind};
+ghost use Rattle.step.specs.Step.{intervalAlone, susAllows, intervalInSus, addInterval, placed, modifierStep, isPower, numberStep, augStep, hyphenStep, susStep, omitTarget, omitStep, addTarget, addSigned, addStep, sixNine, thenEnd, bassStep, slashStep, openStep, matchedClose, unmatchedClose, commaStep, stepOf, insideOf};
 use crate::context::Context;
 use crate::context::GroupKind;
 use crate::effect::Effect;
@@ -35,26 +35,8 @@ use expression::expression::Exp;
 use expression::parser_error::ParserError;
 use lookahead::Ahead;
 use lookahead::Next;
+use token::Bracket;
 use token::TokenType;
-
-// What a token is to the bracket around it.
-pub enum Bracket {
-    Opens,
-    Closes,
-    Ends,
-    Other,
-}
-
-pub fn bracket_kind(kind: TokenType) -> Bracket
-    ensures { λ r. ⌜ r ≡ bracketKind kind ⌝ }
-{
-    match kind {
-        TokenType::LParent => Bracket::Opens,
-        TokenType::RParent => Bracket::Closes,
-        TokenType::Eof => Bracket::Ends,
-        _ => Bracket::Other,
-    }
-}
 
 fn is_inside(h: Here) -> bool
     ensures { λ r. ⌜ r ≡ ltZ (pos 0) (h .count) ⌝ }

@@ -24,16 +24,16 @@ use Rattle.expression.specs.declared.parser_error.ParserError.{ParserError}
 use Rattle.parser.specs.Parser.{Parsing, aheadOf, applied, blank, effectAt, errorOf, hereOf, nextAt, parseOf, rootEffect, rootOf, stackTurn, tokenTurn, walk}
 use Rattle.step.specs.Effect.{taking}
 use Rattle.step.specs.Interval.{intervalOf}
-use Rattle.step.specs.Step.{addInterval, addSigned, addTarget, bracketKind, insideOf, intervalAlone, isPower, modifierStep, noteStep, omitTarget, placed, sixNine, stepOf, susAllows}
+use Rattle.step.specs.Step.{addInterval, addSigned, addTarget, insideOf, intervalAlone, isPower, modifierStep, noteStep, omitTarget, placed, sixNine, stepOf, susAllows}
 use Rattle.step.specs.declared.context.Context.the-variants as context
 use Rattle.step.specs.declared.context.Context.{Context}
 use Rattle.step.specs.declared.effect.Effect.{Effect}
 use Rattle.step.specs.declared.effect.Here.{Here}
 use Rattle.step.specs.declared.effect.OptionalError.the-variants as error
 use Rattle.step.specs.declared.effect.OptionalError.{OptionalError}
-use Rattle.step.specs.declared.step.Bracket.the-variants.{Opens, Closes, Ends, Other}
-use Rattle.step.specs.declared.step.Bracket.{Bracket}
-use Rattle.token.specs.Token.{Token, typeOf}
+use Rattle.token.specs.Token.{Token, bracketKind, typeOf}
+use Rattle.token.specs.declared.Bracket.the-variants.{Opens, Closes, Ends, Other}
+use Rattle.token.specs.declared.Bracket.{Bracket}
 use Rattle.token.specs.declared.TokenType.the-variants as type
 use Rattle.token.specs.declared.TokenType.{TokenType}
 use Rattle.validator.specs.Validator.{only, orElse, firstFrom, allFrom, wrongOf, firstWrong, timesOf, repeatedAt, repeated, expressionErrors, among, addTargets, omitTargets, badExtensions, faultOf, seeing, extensionFault, reported, others, conflictAt, extensionErrors, lastBelow, neighboursAt, present, three, semitoneErrors, validationOf}

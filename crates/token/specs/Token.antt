@@ -1,4 +1,4 @@
--- Tokens, their types and the numbers of these, and the list of tokens that three parallel arrays hold.
+-- Tokens, their types, the numbers of these and what each is to a bracket, and the list of tokens that three parallel arrays hold.
 use mathlib.Core.Bool.{cond}
 use mathlib.Core.List.{List, [], _∷_}
 use mathlib.Core.Path.{_≡_}
@@ -6,6 +6,8 @@ use Prim.Native.Nat.{ℕ, _+_, _-_, _≤_}
 use lib.Dec.{ltb}
 use lib.ListN.{length, getD, drop}
 use Rattle.chord.specs.Note.{letterNumber, letterOf}
+use Rattle.token.specs.declared.Bracket.the-variants.{Opens, Closes, Ends, Other}
+use Rattle.token.specs.declared.Bracket.{Bracket}
 use Rattle.token.specs.declared.TokenType.the-variants.{Note, Sharp, Flat, Aug, Dim, Dim7, HalfDim, Extension, Add, Omit, Alt, Sus, Minor, Hyphen, Maj, Maj7, Slash, LParent, RParent, Comma, Bass, Illegal, Eof}
 use Rattle.token.specs.declared.TokenType.{TokenType}
 
@@ -59,6 +61,32 @@ typeOf k =
     (cond (ltb k 64) (Extension (k - 32))
     (cond (ltb k 71) (Note (letterOf (k - 64)))
     Illegal))
+
+-- what a token is to the bracket around it, as `lparen` asks of each
+abbrev pub bracketKind : TokenType → Bracket
+bracketKind (Note l) = Other
+bracketKind Sharp = Other
+bracketKind Flat = Other
+bracketKind Aug = Other
+bracketKind Dim = Other
+bracketKind Dim7 = Other
+bracketKind HalfDim = Other
+bracketKind (Extension n) = Other
+bracketKind Add = Other
+bracketKind Omit = Other
+bracketKind Alt = Other
+bracketKind Sus = Other
+bracketKind Minor = Other
+bracketKind Hyphen = Other
+bracketKind Maj = Other
+bracketKind Maj7 = Other
+bracketKind Slash = Other
+bracketKind LParent = Opens
+bracketKind RParent = Closes
+bracketKind Comma = Other
+bracketKind Bass = Other
+bracketKind Illegal = Other
+bracketKind Eof = Ends
 
 -- the arrays' tokens, row by row, as far as the shortest goes
 unfoldable pub rows : List ℕ → List ℕ → List ℕ → List Token

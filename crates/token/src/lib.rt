@@ -1,8 +1,8 @@
-// Tokens: their types, and lists of them in three lent arrays of numbers.
+// Tokens: their types, what each is to a bracket, and lists of them in three lent arrays of numbers.
 ghost use mathlib.Core.Path.{_≡_};
 ghost use Prim.Native.Nat.{_+_, _<_};
 ghost use lib.ListN.{set};
-ghost use Rattle.token.specs.Token.{token as tokenOf, typeOf, plainType, rows, Room, at as tokenAt};
+ghost use Rattle.token.specs.Token.{bracketKind, token as tokenOf, typeOf, plainType, rows, Room, at as tokenAt};
 use chord::note::NoteLiteral;
 
 pub enum TokenType {
@@ -29,6 +29,14 @@ pub enum TokenType {
     Bass,
     Illegal,
     Eof,
+}
+
+// What a token can be to the bracket around it.
+pub enum Bracket {
+    Opens,
+    Closes,
+    Ends,
+    Other,
 }
 
 // The numbers of the types that the lexer and the folding write, and of the extension 7.
@@ -112,6 +120,18 @@ impl TokenType {
             return TokenType::Note(NoteLiteral::from_number(number - 64));
         }
         TokenType::Illegal
+    }
+}
+
+// What a token of a type is to the bracket around it.
+pub fn bracket_kind(kind: TokenType) -> Bracket
+    ensures { λ r. ⌜ r ≡ bracketKind kind ⌝ }
+{
+    match kind {
+        TokenType::LParent => Bracket::Opens,
+        TokenType::RParent => Bracket::Closes,
+        TokenType::Eof => Bracket::Ends,
+        _ => Bracket::Other,
     }
 }
 

@@ -1,8 +1,6 @@
--- Each arm is the definition at that type.
+-- Each arm is the definition at that type: `search` puts the type that the token has into the definition, and finds what the call ensures.
 -- Assumes nothing.
-use mathlib.Core.Path.{sym, ap, _∙_}
 use borrow.Author.Needs.{needs}
-use Rattle.step.specs.Step.{stepOf}
 use Rattle.step.proofs.step.process_token.Statement.{statement}
 use Rattle.step.proofs.step.process_token.Tie as tie
 
@@ -145,73 +143,73 @@ keep-requires : tie.Need-keep-requires
 keep-requires c κs = search needs
 
 returns : tie.Need-returns
-returns c = c .fail .ensures ∙ sym (ap (λ k. stepOf k (c .before .before .before .args .h) (c .before .before .before .args .a)) (c .before .enum-told .given .1))
+returns c = search (c .before .enum-told .given .1)
 
 returns-2 : tie.Need-returns-2
-returns-2 c = c .modifier .ensures ∙ sym (ap (λ k. stepOf k (c .before .before .before .args .h) (c .before .before .before .args .a)) (c .before .enum-told2 .given .1))
+returns-2 c = search (c .before .enum-told2 .given .1)
 
 returns-3 : tie.Need-returns-3
-returns-3 c = c .modifier2 .ensures ∙ sym (ap (λ k. stepOf k (c .before .before .before .args .h) (c .before .before .before .args .a)) (c .before .enum-told3 .given .1))
+returns-3 c = search (c .before .enum-told3 .given .1)
 
 returns-4 : tie.Need-returns-4
-returns-4 c = c .aug .ensures ∙ sym (ap (λ k. stepOf k (c .before .before .before .args .h) (c .before .before .before .args .a)) (c .before .enum-told4 .given .1))
+returns-4 c = search (c .before .enum-told4 .given .1)
 
 returns-5 : tie.Need-returns-5
-returns-5 c = c .push .ensures ∙ sym (ap (λ k. stepOf k (c .before .before .before .args .h) (c .before .before .before .args .a)) (c .before .enum-told5 .given .1))
+returns-5 c = search (c .before .enum-told5 .given .1)
 
 returns-6 : tie.Need-returns-6
-returns-6 c = c .push2 .ensures ∙ sym (ap (λ k. stepOf k (c .before .before .before .args .h) (c .before .before .before .args .a)) (c .before .enum-told6 .given .1))
+returns-6 c = search (c .before .enum-told6 .given .1)
 
 returns-7 : tie.Need-returns-7
-returns-7 c = c .push3 .ensures ∙ sym (ap (λ k. stepOf k (c .before .before .before .args .h) (c .before .before .before .args .a)) (c .before .enum-told7 .given .1))
+returns-7 c = search (c .before .enum-told7 .given .1)
 
 returns-8 : tie.Need-returns-8
-returns-8 c = c .extension .ensures ∙ sym (ap (λ k. stepOf k (c .before .before .before .before .args .h) (c .before .before .before .before .args .a)) (c .before .before .kind .given .1))
+returns-8 c = search (c .before .before .kind .given .1)
 
 returns-9 : tie.Need-returns-9
-returns-9 c = c .add .ensures ∙ sym (ap (λ k. stepOf k (c .before .before .before .args .h) (c .before .before .before .args .a)) (c .before .enum-told8 .given .1))
+returns-9 c = search (c .before .enum-told8 .given .1)
 
 returns-10 : tie.Need-returns-10
-returns-10 c = c .omit .ensures ∙ sym (ap (λ k. stepOf k (c .before .before .before .args .h) (c .before .before .before .args .a)) (c .before .enum-told9 .given .1))
+returns-10 c = search (c .before .enum-told9 .given .1)
 
 returns-11 : tie.Need-returns-11
-returns-11 c = c .push4 .ensures ∙ sym (ap (λ k. stepOf k (c .before .before .before .args .h) (c .before .before .before .args .a)) (c .before .enum-told10 .given .1))
+returns-11 c = search (c .before .enum-told10 .given .1)
 
 returns-12 : tie.Need-returns-12
-returns-12 c = c .sus .ensures ∙ sym (ap (λ k. stepOf k (c .before .before .before .args .h) (c .before .before .before .args .a)) (c .before .enum-told11 .given .1))
+returns-12 c = search (c .before .enum-told11 .given .1)
 
 returns-13 : tie.Need-returns-13
-returns-13 c = c .push5 .ensures ∙ sym (ap (λ k. stepOf k (c .before .before .before .args .h) (c .before .before .before .args .a)) (c .before .enum-told12 .given .1))
+returns-13 c = search (c .before .enum-told12 .given .1)
 
 returns-14 : tie.Need-returns-14
-returns-14 c = c .hyphen .ensures ∙ sym (ap (λ k. stepOf k (c .before .before .before .args .h) (c .before .before .before .args .a)) (c .before .enum-told13 .given .1))
+returns-14 c = search (c .before .enum-told13 .given .1)
 
 returns-15 : tie.Need-returns-15
-returns-15 c = c .push6 .ensures ∙ sym (ap (λ k. stepOf k (c .before .before .before .args .h) (c .before .before .before .args .a)) (c .before .enum-told14 .given .1))
+returns-15 c = search (c .before .enum-told14 .given .1)
 
 returns-16 : tie.Need-returns-16
-returns-16 c = c .push7 .ensures ∙ sym (ap (λ k. stepOf k (c .before .before .before .args .h) (c .before .before .before .args .a)) (c .before .enum-told15 .given .1))
+returns-16 c = search (c .before .enum-told15 .given .1)
 
 returns-17 : tie.Need-returns-17
-returns-17 c = c .slash .ensures ∙ sym (ap (λ k. stepOf k (c .before .before .before .args .h) (c .before .before .before .args .a)) (c .before .enum-told16 .given .1))
+returns-17 c = search (c .before .enum-told16 .given .1)
 
 returns-18 : tie.Need-returns-18
-returns-18 c = c .lparen .ensures ∙ sym (ap (λ k. stepOf k (c .before .before .before .args .h) (c .before .before .before .args .a)) (c .before .enum-told17 .given .1))
+returns-18 c = search (c .before .enum-told17 .given .1)
 
 returns-19 : tie.Need-returns-19
-returns-19 c = c .rparen .ensures ∙ sym (ap (λ k. stepOf k (c .before .before .before .args .h) (c .before .before .before .args .a)) (c .before .enum-told18 .given .1))
+returns-19 c = search (c .before .enum-told18 .given .1)
 
 returns-20 : tie.Need-returns-20
-returns-20 c = c .comma .ensures ∙ sym (ap (λ k. stepOf k (c .before .before .before .args .h) (c .before .before .before .args .a)) (c .before .enum-told19 .given .1))
+returns-20 c = search (c .before .enum-told19 .given .1)
 
 returns-21 : tie.Need-returns-21
-returns-21 c = c .push8 .ensures ∙ sym (ap (λ k. stepOf k (c .before .before .before .args .h) (c .before .before .before .args .a)) (c .before .enum-told20 .given .1))
+returns-21 c = search (c .before .enum-told20 .given .1)
 
 returns-22 : tie.Need-returns-22
-returns-22 c = c .fail2 .ensures ∙ sym (ap (λ k. stepOf k (c .before .before .before .args .h) (c .before .before .before .args .a)) (c .before .enum-told21 .given .1))
+returns-22 c = search (c .before .enum-told21 .given .1)
 
 returns-23 : tie.Need-returns-23
-returns-23 c = c .keep .ensures ∙ sym (ap (λ k. stepOf k (c .before .before .before .args .h) (c .before .before .before .args .a)) (c .before .enum-told22 .given .1))
+returns-23 c = search (c .before .enum-told22 .given .1)
 
 pub process-token-spec : {M : Type 1} → statement M
 process-token-spec =

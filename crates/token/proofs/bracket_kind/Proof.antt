@@ -6,13 +6,13 @@ use Prim.Native.Nat.{ℕ}
 use borrow.Author.Needs.{needs}
 use denote.Enum.Declared.{tagOf}
 use types.Run.{OneOf, miss}
 use Rattle.token.proofs.TokenType.{the-type}
 use Rattle.token.specs.declared.TokenType.the-variants as type
 use Rattle.token.specs.declared.TokenType.{TokenType}
-use Rattle.step.specs.Step.{bracketKind}
-use Rattle.step.specs.declared.step.Bracket.the-variants.{Other}
-use Rattle.step.proofs.step.bracket_kind.Statement.{statement}
-use Rattle.step.proofs.step.bracket_kind.Tie as tie
+use Rattle.token.specs.Token.{bracketKind}
+use Rattle.token.specs.declared.Bracket.the-variants.{Other}
+use Rattle.token.proofs.bracket_kind.Statement.{statement}
+use Rattle.token.proofs.bracket_kind.Tie as tie
 
 abbrev others : List ℕ
 others = 0 ∷ 1 ∷ 2 ∷ 3 ∷ 4 ∷ 5 ∷ 6 ∷ 7 ∷ 8 ∷ 9 ∷ 10 ∷ 11 ∷ 12 ∷ 13 ∷ 14 ∷ 15 ∷ 16 ∷ 19 ∷ 20 ∷ 21 ∷ []
