@@ -2,9 +2,9 @@
 ghost use Prim.Native.Nat.{_≤_, _<_};
 use crate::record::Record;
 use chord::Chord;
-use chord::interval::IntervalList;
-use chord::interval::IntervalSet;
-use chord::note::OptionalNote;
+use intervals::IntervalList;
+use intervals::IntervalSet;
+use note::OptionalNote;
 use reader::Reading;
 
 // Appends a number behind a space.

@@ -6,12 +6,12 @@ use crate::number::behind_space;
 use crate::number::next_number;
 use crate::number::next_signed;
 use chord::Chord;
-use chord::interval::IntervalList;
-use chord::interval::IntervalSet;
-use chord::note::Note;
-use chord::note::NoteLiteral;
-use chord::note::OptionalNote;
-use chord::note::RootModifier;
+use intervals::IntervalList;
+use intervals::IntervalSet;
+use note::Note;
+use note::NoteLiteral;
+use note::OptionalNote;
+use note::RootModifier;
 
 // A record, whether the numbers are one, and what is wrong with the line.
 pub(crate) struct Record {

@@ -1,5 +1,1 @@
-pub mod Store
-mod Bits
-mod Same
-pub mod Semitones
 pub mod Record

@@ -1,3 +1,1 @@
-pub mod Interval
-pub mod Note
 pub mod Chord

@@ -1,16 +1,16 @@
-// The chord record and what it is made of.
+// The chord record.
 ghost use mathlib.Core.Logic.{_↔_};
 ghost use mathlib.Core.Path.{_≡_};
 ghost use mathlib.Core.Bool.{true};
 ghost use Rattle.chord.specs.Chord.{fourOf, noChord, recordOf};
 
-pub mod interval;
-pub mod note;
-mod pitch;
+mod same;
 
-use interval::IntervalList;
-use interval::IntervalSet;
+use intervals::IntervalList;
+use intervals::IntervalSet;
 use note::OptionalNote;
+use same::same_optional;
+use same::same_set;
 
 // Root, slash bass or none, normalized set and display list. Every value is a record that a caller may hand over, also one without a root.
 pub struct Chord {
@@ -39,17 +39,17 @@ impl Chord {
     {
         let a = self.root;
         let b = other.root;
-        if !a.same(b) {
+        if !same_optional(a, b) {
             return false;
         }
         let c = self.bass;
         let d = other.bass;
-        if !c.same(d) {
+        if !same_optional(c, d) {
             return false;
         }
         let m = self.normalized;
         let n = other.normalized;
-        if !m.same(n) {
+        if !same_set(m, n) {
             return false;
         }
         let x = self.display;

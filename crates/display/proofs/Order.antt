@@ -11,7 +11,7 @@ use lib.ListN.{length, drop, getD, replicate, set}
 use lib.Seq.{drop-cons, drop-drop, drop-set-lt}
 use mir.Facts.{and-yes}
 use borrow.Author.Tests.{ne-eqb}
-use Rattle.chord.specs.Interval.{Set, semitones}
+use Rattle.intervals.specs.Interval.{Set, semitones}
 use Rattle.display.specs.Display.{chosen, displayOf, numbers, order, place, shown, sortBy}
 use Rattle.display.specs.State.{movedAt}
 

@@ -3,7 +3,7 @@ use mathlib.Core.Bool.{cond, _&&_}
 use mathlib.Core.List.{List, [], _∷_}
 use Prim.Native.Nat.{ℕ}
 use lib.Dec.{eqb, leb}
-use Rattle.chord.specs.Interval.{Set, augmentedFourth, flatNinth, majorSecond, minorSecond, ninth, semitones, sharpEleventh}
+use Rattle.intervals.specs.Interval.{Set, augmentedFourth, flatNinth, majorSecond, minorSecond, ninth, semitones, sharpEleventh}
 use Rattle.expression.specs.Expression.{onSus}
 use Rattle.expression.specs.declared.expression.Exp.{Exp}
 

@@ -2,17 +2,17 @@
 ghost use mathlib.Core.Path.{_≡_};
 ghost use Prim.Native.Nat.{_+_, _<_};
 ghost use lib.ListN.{getD};
-ghost use Rattle.chord.specs.Chord.{members, listed, listOf};
+ghost use Rattle.intervals.specs.Stored.{members, listed, listOf};
 ghost use Rattle.display.specs.Display.{shown, order, displayOf};
 ghost use Rattle.display.specs.State.{movedAt};
-use chord::interval::AUGMENTED_FOURTH;
-use chord::interval::FLAT_NINTH;
-use chord::interval::IntervalList;
-use chord::interval::IntervalSet;
-use chord::interval::MAJOR_SECOND;
-use chord::interval::MINOR_SECOND;
-use chord::interval::NINTH;
-use chord::interval::SHARP_ELEVENTH;
+use intervals::AUGMENTED_FOURTH;
+use intervals::FLAT_NINTH;
+use intervals::IntervalList;
+use intervals::IntervalSet;
+use intervals::MAJOR_SECOND;
+use intervals::MINOR_SECOND;
+use intervals::NINTH;
+use intervals::SHARP_ELEVENTH;
 
 // What the interval i is shown as, where the first sus is of the interval k.
 fn shown(k: u8, i: u8) -> u8

@@ -7,8 +7,8 @@ use Prim.Native.Nat.{ℕ}
 use lib.ListN.{getD, drop}
 use denote.Enum.Declared.{tagOf}
 use types.Run.{OneOf}
-use Rattle.chord.specs.Note.{noteOf}
-use Rattle.chord.specs.declared.note.Note.{Note}
+use Rattle.note.specs.Note.{noteOf}
+use Rattle.note.specs.declared.Note.{Note}
 use Rattle.expression.specs.declared.expression.Exp.the-variants.{Power, Bass, Maj, Maj7, Minor, HalfDim, Dim, Dim7, Alt, Aug, Sus, Extension, Add, Omit, SlashBass}
 use Rattle.expression.specs.declared.expression.Exp.{Exp}
 use Rattle.expression.proofs.expression.Exp.{the-type}

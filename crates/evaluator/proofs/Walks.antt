@@ -6,9 +6,9 @@ use mathlib.Core.Path.{_≡_, refl, sym, ap, _∙_}
 use Prim.Native.Nat.{ℕ, suc, _≤_, _<_}
 use lib.ListN.{length, drop, getD, drop-of-length-le}
 use lib.Seq.{drop-cons}
-use Rattle.chord.specs.Chord.{members}
-use Rattle.chord.specs.Interval.{Set}
-use Rattle.chord.specs.declared.note.OptionalNote.{OptionalNote}
+use Rattle.intervals.specs.Stored.{members}
+use Rattle.intervals.specs.Interval.{Set}
+use Rattle.note.specs.declared.OptionalNote.{OptionalNote}
 use Rattle.expression.specs.Expression.{expOf}
 use Rattle.expression.specs.declared.expression.Exp.{Exp}
 use Rattle.display.specs.Display.{firstSus, susOf}

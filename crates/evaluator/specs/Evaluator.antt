@@ -4,9 +4,9 @@ use mathlib.Core.Bool.{Bool, true, false, _&&_, _||_, cond}
 use mathlib.Core.List.{List, [], _∷_}
 use Prim.Native.Nat.{ℕ, max}
 use lib.Dec.{eqb, leb}
-use Rattle.chord.specs.Interval.{Set, empty, insert, remove, removeThenAdd, unison, minorSecond, majorSecond, minorThird, majorThird, perfectFourth, augmentedFourth, diminishedFifth, perfectFifth, augmentedFifth, minorSixth, majorSixth, diminishedSeventh, minorSeventh, majorSeventh, flatNinth, ninth, sharpNinth, eleventh, sharpEleventh, flatThirteenth, thirteenth}
-use Rattle.chord.specs.declared.note.OptionalNote.the-variants as optional
-use Rattle.chord.specs.declared.note.OptionalNote.{OptionalNote}
+use Rattle.intervals.specs.Interval.{Set, empty, insert, remove, removeThenAdd, unison, minorSecond, majorSecond, minorThird, majorThird, perfectFourth, augmentedFourth, diminishedFifth, perfectFifth, augmentedFifth, minorSixth, majorSixth, diminishedSeventh, minorSeventh, majorSeventh, flatNinth, ninth, sharpNinth, eleventh, sharpEleventh, flatThirteenth, thirteenth}
+use Rattle.note.specs.declared.OptionalNote.the-variants as optional
+use Rattle.note.specs.declared.OptionalNote.{OptionalNote}
 use Rattle.expression.specs.Expression.{onAdd, onExtension, onSlashBass, onSus}
 use Rattle.expression.specs.declared.expression.Exp.the-variants.{Power, Bass, Maj, Maj7, Minor, HalfDim, Dim, Dim7, Alt, Aug, Sus, Extension, Add, Omit, SlashBass}
 use Rattle.expression.specs.declared.expression.Exp.{Exp}

@@ -5,8 +5,8 @@ use mathlib.Core.List.{List}
 use mathlib.Core.Path.{_≡_}
 use Prim.Native.Nat.{ℕ, _<_}
 use lib.ListN.{length, getD}
-use Rattle.chord.specs.Chord.{listOf, listed, members, setOf}
-use Rattle.chord.specs.Interval.{Set}
+use Rattle.intervals.specs.Stored.{listOf, listed, members, setOf}
+use Rattle.intervals.specs.Interval.{Set}
 use Rattle.expression.specs.Expression.{expOf}
 use Rattle.expression.specs.declared.expression.Exp.{Exp}
 use Rattle.step.specs.Bounds.{Sound}

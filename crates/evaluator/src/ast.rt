@@ -1,15 +1,15 @@
 // The base form of a chord: thirds and fifths, by the highest form that an expression asks for.
 ghost use mathlib.Core.Path.{_≡_};
-ghost use Rattle.chord.specs.Chord.{members};
+ghost use Rattle.intervals.specs.Stored.{members};
 ghost use Rattle.evaluator.specs.declared.ast.BaseForm.the-variants as form;
 ghost use Rattle.evaluator.specs.Evaluator.{priority, transition, applyForm, isMajor, formOf};
-use chord::interval::DIMINISHED_FIFTH;
-use chord::interval::DIMINISHED_SEVENTH;
-use chord::interval::IntervalSet;
-use chord::interval::MAJOR_THIRD;
-use chord::interval::MINOR_SEVENTH;
-use chord::interval::MINOR_THIRD;
-use chord::interval::PERFECT_FIFTH;
+use intervals::DIMINISHED_FIFTH;
+use intervals::DIMINISHED_SEVENTH;
+use intervals::IntervalSet;
+use intervals::MAJOR_THIRD;
+use intervals::MINOR_SEVENTH;
+use intervals::MINOR_THIRD;
+use intervals::PERFECT_FIFTH;
 use expression::expression::Exp;
 
 pub enum BaseForm {

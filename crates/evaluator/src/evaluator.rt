@@ -2,7 +2,7 @@
 ghost use mathlib.Core.Bool.{_||_};
 ghost use mathlib.Core.List.{[], map};
 ghost use mathlib.Core.Path.{_≡_};
-ghost use Rattle.chord.specs.Chord.{members};
+ghost use Rattle.intervals.specs.Stored.{members};
 ghost use Rattle.expression.specs.Expression.{expOf};
 ghost use Rattle.step.specs.Bounds.{Sound};
 ghost use Rattle.display.specs.Display.{firstSus};
@@ -22,12 +22,12 @@ use crate::stages::is_sus4;
 use crate::stages::omit_by;
 use crate::stages::prune;
 use crate::stages::sus_of;
-use chord::interval::IntervalList;
-use chord::interval::IntervalSet;
-use chord::interval::MAJOR_THIRD;
-use chord::interval::PERFECT_FIFTH;
-use chord::interval::UNISON;
-use chord::note::OptionalNote;
+use intervals::IntervalList;
+use intervals::IntervalSet;
+use intervals::MAJOR_THIRD;
+use intervals::PERFECT_FIFTH;
+use intervals::UNISON;
+use note::OptionalNote;
 use expression::expression::Exp;
 
 // What the expressions say before the stages.

@@ -2,8 +2,8 @@
 use mathlib.Core.List.{[], _∷_}
 use Prim.Native.Nat.{ℕ, _+_, _*_, _/_, _%_}
 use lib.ListN.{getD}
-use Rattle.chord.specs.Note.{noteNumber, noteOf}
-use Rattle.chord.specs.declared.note.Note.{Note}
+use Rattle.note.specs.Note.{noteNumber, noteOf}
+use Rattle.note.specs.declared.Note.{Note}
 use Rattle.expression.specs.declared.expression.Exp.the-variants.{Power, Bass, Maj, Maj7, Minor, HalfDim, Dim, Dim7, Alt, Aug, Sus, Extension, Add, Omit, SlashBass}
 use Rattle.expression.specs.declared.expression.Exp.{Exp}
 

@@ -2,7 +2,7 @@
 ghost use mathlib.Core.Path.{_≡_};
 ghost use Prim.Native.Nat.{_+_, _*_, _<_};
 ghost use Rattle.expression.specs.Expression.{packed, expNumber, expBy, expOf};
-use chord::note::Note;
+use note::Note;
 
 // An interval is its number; the second number of Extension, Add and Omit is a position.
 pub enum Exp {

@@ -9,8 +9,8 @@ use Prim.Native.Nat.{ℕ, zero, suc, _+_, _≤_}
 use native.Mathlib.Omega.{arith}
 use lib.Dec.{T, eqb, leb, leb→le}
 use borrow.Author.Tests.{le-ltb}
-use Rattle.chord.specs.Interval.{Set, empty, insert, semitones}
-use Rattle.chord.specs.declared.note.OptionalNote.{OptionalNote}
+use Rattle.intervals.specs.Interval.{Set, empty, insert, semitones}
+use Rattle.note.specs.declared.OptionalNote.{OptionalNote}
 use Rattle.expression.specs.ParserError.{numbersOf}
 use Rattle.expression.specs.declared.expression.Exp.the-variants.{Power, Bass, Maj, Maj7, Minor, HalfDim, Dim, Dim7, Alt, Aug, Sus, Extension, Add, Omit, SlashBass}
 use Rattle.expression.specs.declared.expression.Exp.{Exp}

@@ -8,9 +8,9 @@ use Prim.Native.Nat.{ℕ, zero, suc, _<_}
 use native.Mathlib.Nat.{not-suc-le-zero, le-of-suc-le-suc}
 use lib.Dec.{T, eqb, ltb, ltb→lt}
 use lib.ListN.{getD}
-use Rattle.chord.specs.Interval.{Set, empty, insert, remove, removeThenAdd}
-use Rattle.chord.specs.Note.{noteOf}
-use Rattle.chord.specs.declared.note.Note.{Note}
+use Rattle.intervals.specs.Interval.{Set, empty, insert, remove, removeThenAdd}
+use Rattle.note.specs.Note.{noteOf}
+use Rattle.note.specs.declared.Note.{Note}
 use Rattle.display.specs.Display.{firstSus, susOf}
 use Rattle.evaluator.specs.Evaluator.{foldLeft, any, direct, alterBy, omitBy, addBy, applyForm, applySus, imply, imply7, imply9, imply11, implied, prune6, prune11, evalSet, seed, maxExt, baseForm, isMajor, isMaj, isSus4, removeThirds}
 use Rattle.evaluator.specs.declared.ast.BaseForm.the-variants as form

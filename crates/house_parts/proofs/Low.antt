@@ -6,9 +6,9 @@ use Prim.Native.Nat.{ℕ, _≤_, _<_}
 use native.Mathlib.Omega.{arith}
 use lib.Dec.{ltb}
 use borrow.Author.Tests.{ltb-false, ltb-true}
-use Rattle.chord.proofs.Record.{none-of, none-says}
-use Rattle.chord.specs.Chord.{outside, within}
-use Rattle.chord.specs.Interval.{Set}
+use Rattle.intervals.proofs.Whole.{none-of, none-says}
+use Rattle.intervals.specs.Stored.{outside, within}
+use Rattle.intervals.specs.Interval.{Set}
 
 -- no member from 23 on
 abbrev pub Low : Set → Type 0

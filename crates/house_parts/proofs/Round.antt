@@ -9,8 +9,8 @@ use native.Mathlib.Nat.{not-suc-le-zero, le-of-suc-le-suc}
 use lib.Dec.{T, eqb}
 use lib.ListN.{length, getD}
 use lib.Seq.{ext-getD}
-use Rattle.chord.specs.Interval.{Set, insert, remove}
-use Rattle.chord.specs.declared.note.OptionalNote.{OptionalNote}
+use Rattle.intervals.specs.Interval.{Set, insert, remove}
+use Rattle.note.specs.declared.OptionalNote.{OptionalNote}
 use Rattle.evaluator.specs.Evaluator.{evalSet}
 use Rattle.house_parts.specs.House.{isFlat2, isSecond, isSharp4, isSus, parts, spellExps}
 use Rattle.house_parts.specs.declared.kind.SusKind.the-variants.{Plain, Flat2, Second, Sharp4}

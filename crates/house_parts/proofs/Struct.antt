@@ -4,7 +4,7 @@
 use mathlib.Core.Bool.{Bool, true, false, not, _&&_}
 use mathlib.Core.List.{List, [], _∷_}
 use lib.Dec.{T, eqb, ltb}
-use Rattle.chord.specs.Interval.{Set, unison, minorSecond, minorThird, majorThird, augmentedFourth, diminishedFifth, perfectFifth, augmentedFifth, majorSixth, diminishedSeventh, octave, flatNinth, ninth, eleventh, sharpEleventh, flatThirteenth, thirteenth}
+use Rattle.intervals.specs.Interval.{Set, unison, minorSecond, minorThird, majorThird, augmentedFourth, diminishedFifth, perfectFifth, augmentedFifth, majorSixth, diminishedSeventh, octave, flatNinth, ninth, eleventh, sharpEleventh, flatThirteenth, thirteenth}
 use Rattle.expression.specs.declared.expression.Exp.the-variants.{Power, Bass, Maj, Maj7, Minor, HalfDim, Dim, Dim7, Alt, Aug, Sus, Extension, Add, Omit, SlashBass}
 use Rattle.expression.specs.declared.expression.Exp.{Exp}
 use Rattle.validator.specs.Validator.{addTargets, among, omitTargets}

@@ -4,11 +4,11 @@ use mathlib.Core.List.{List, [], _∷_}
 use Prim.Native.Nat.{ℕ}
 use lib.Dec.{eqb}
 use lib.ListN.{getD}
-use Rattle.chord.specs.Interval.{Set, minorSecond, majorSecond, minorThird, majorThird, perfectFourth, augmentedFourth, diminishedFifth, perfectFifth, augmentedFifth, minorSixth, majorSixth, diminishedSeventh, minorSeventh, majorSeventh, flatNinth, ninth, sharpNinth, eleventh, sharpEleventh, flatThirteenth, thirteenth}
-use Rattle.chord.specs.Note.{noteOf}
-use Rattle.chord.specs.declared.note.Note.{Note}
-use Rattle.chord.specs.declared.note.OptionalNote.the-variants as optional
-use Rattle.chord.specs.declared.note.OptionalNote.{OptionalNote}
+use Rattle.intervals.specs.Interval.{Set, minorSecond, majorSecond, minorThird, majorThird, perfectFourth, augmentedFourth, diminishedFifth, perfectFifth, augmentedFifth, minorSixth, majorSixth, diminishedSeventh, minorSeventh, majorSeventh, flatNinth, ninth, sharpNinth, eleventh, sharpEleventh, flatThirteenth, thirteenth}
+use Rattle.note.specs.Note.{noteOf}
+use Rattle.note.specs.declared.Note.{Note}
+use Rattle.note.specs.declared.OptionalNote.the-variants as optional
+use Rattle.note.specs.declared.OptionalNote.{OptionalNote}
 use Rattle.display.specs.Display.{displayOf}
 use Rattle.evaluator.specs.Evaluator.{elem}
 use Rattle.expression.specs.declared.expression.Exp.the-variants.{Minor, Dim7, Sus, Extension, Add, Omit, SlashBass}

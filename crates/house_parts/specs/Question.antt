@@ -4,8 +4,9 @@ use mathlib.Core.Bool.{Bool, true, false, not, _&&_}
 use mathlib.Core.List.{List, [], _∷_}
 use Prim.Native.Nat.{ℕ}
 use lib.Dec.{eqb}
-use Rattle.chord.specs.Chord.{Four, within}
-use Rattle.chord.specs.Interval.{Set, unison, minorSecond, minorThird, majorThird, augmentedFourth, diminishedFifth, perfectFifth, augmentedFifth, majorSixth, diminishedSeventh, octave, flatNinth, ninth, eleventh, sharpEleventh, flatThirteenth, thirteenth}
+use Rattle.chord.specs.Chord.{Four}
+use Rattle.intervals.specs.Stored.{within}
+use Rattle.intervals.specs.Interval.{Set, unison, minorSecond, minorThird, majorThird, augmentedFourth, diminishedFifth, perfectFifth, augmentedFifth, majorSixth, diminishedSeventh, octave, flatNinth, ninth, eleventh, sharpEleventh, flatThirteenth, thirteenth}
 use Rattle.validator.specs.Validator.{setValid}
 use Rattle.house_parts.specs.House.{displayBy, isFlat2, isSecond, isSharp4, isSome, isSus, kindIn}
 use Rattle.house_parts.specs.declared.kind.SusKind.{SusKind}

@@ -2,17 +2,17 @@
 ghost use mathlib.Core.Bool.{not, _&&_};
 ghost use mathlib.Core.Path.{_≡_};
 ghost use Prim.Native.Nat.{_<_};
-ghost use Rattle.chord.specs.Chord.{members, listed};
+ghost use Rattle.intervals.specs.Stored.{members, listed};
 ghost use Rattle.evaluator.specs.Evaluator.{elem};
 ghost use Rattle.house_parts.specs.House.{isFlat2, isSecond, isSharp4, isSus, kindIn, susBy};
-use chord::interval::AUGMENTED_FOURTH;
-use chord::interval::FLAT_NINTH;
-use chord::interval::IntervalList;
-use chord::interval::IntervalSet;
-use chord::interval::MAJOR_SECOND;
-use chord::interval::MINOR_SECOND;
-use chord::interval::NINTH;
-use chord::interval::SHARP_ELEVENTH;
+use intervals::AUGMENTED_FOURTH;
+use intervals::FLAT_NINTH;
+use intervals::IntervalList;
+use intervals::IntervalSet;
+use intervals::MAJOR_SECOND;
+use intervals::MINOR_SECOND;
+use intervals::NINTH;
+use intervals::SHARP_ELEVENTH;
 
 // b2 for b9, 2 for 9, #4 for #11, or none.
 pub enum SusKind {

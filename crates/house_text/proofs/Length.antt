@@ -7,14 +7,14 @@ use Prim.Native.Nat.{ℕ, _+_, _≤_}
 use native.Mathlib.Omega.{arith}
 use lib.ListN.{length, length-append, take, drop}
 use Rattle.chord.specs.Chord.{Four}
-use Rattle.chord.specs.Interval.{Set}
-use Rattle.chord.specs.declared.note.Note.{Note}
-use Rattle.chord.specs.declared.note.NoteLiteral.the-variants.{C, D, E, F, G, A, B}
-use Rattle.chord.specs.declared.note.NoteLiteral.{NoteLiteral}
-use Rattle.chord.specs.declared.note.OptionalNote.the-variants.{None, Some}
-use Rattle.chord.specs.declared.note.OptionalNote.{OptionalNote}
-use Rattle.chord.specs.declared.note.RootModifier.the-variants.{Natural, Sharp, Flat}
-use Rattle.chord.specs.declared.note.RootModifier.{RootModifier}
+use Rattle.intervals.specs.Interval.{Set}
+use Rattle.note.specs.declared.Note.{Note}
+use Rattle.note.specs.declared.NoteLiteral.the-variants.{C, D, E, F, G, A, B}
+use Rattle.note.specs.declared.NoteLiteral.{NoteLiteral}
+use Rattle.note.specs.declared.OptionalNote.the-variants.{None, Some}
+use Rattle.note.specs.declared.OptionalNote.{OptionalNote}
+use Rattle.note.specs.declared.RootModifier.the-variants.{Natural, Sharp, Flat}
+use Rattle.note.specs.declared.RootModifier.{RootModifier}
 use Rattle.house_parts.specs.House.{kindIn}
 use Rattle.house_parts.specs.declared.kind.SusKind.the-variants.{Plain, Flat2, Second, Sharp4}
 use Rattle.house_parts.specs.declared.kind.SusKind.{SusKind}

@@ -9,8 +9,8 @@ use Prim.Native.Nat.{ℕ, _+_}
 use native.Mathlib.Omega.{arith}
 use lib.IntN.{pos}
 use Rattle.lookahead.specs.Next.{isSign, signIn}
-use Rattle.chord.specs.Interval.{Set, minorSecond, majorSecond, majorThird, perfectFourth, augmentedFourth, diminishedFifth, perfectFifth, augmentedFifth, minorSixth, majorSixth, diminishedSeventh, minorSeventh, majorSeventh, flatNinth, ninth, sharpNinth, eleventh, sharpEleventh, flatThirteenth, thirteenth}
-use Rattle.chord.specs.declared.note.RootModifier.the-variants.{Natural}
+use Rattle.intervals.specs.Interval.{Set, minorSecond, majorSecond, majorThird, perfectFourth, augmentedFourth, diminishedFifth, perfectFifth, augmentedFifth, minorSixth, majorSixth, diminishedSeventh, minorSeventh, majorSeventh, flatNinth, ninth, sharpNinth, eleventh, sharpEleventh, flatThirteenth, thirteenth}
+use Rattle.note.specs.declared.RootModifier.the-variants.{Natural}
 use Rattle.expression.specs.declared.expression.Exp.the-variants.{Sus, Extension, Add, Omit}
 use Rattle.expression.specs.declared.expression.Exp.{Exp}
 use Rattle.folding.specs.Folding.{concat, count, dim, is, isMaj, maj, seven, maj7With}

@@ -10,11 +10,12 @@ use native.Mathlib.Omega.{arith}
 use lib.Dec.{T, ltb}
 use lib.ListN.{length}
 use borrow.Author.Tests.{ltb-false, ltb-true}
-use Rattle.chord.specs.Chord.{Four, within}
-use Rattle.chord.specs.Interval.{Set, empty}
-use Rattle.chord.specs.declared.note.Note.{Note}
-use Rattle.chord.specs.declared.note.OptionalNote.the-variants.{None, Some}
-use Rattle.chord.specs.declared.note.OptionalNote.{OptionalNote}
+use Rattle.chord.specs.Chord.{Four}
+use Rattle.intervals.specs.Stored.{within}
+use Rattle.intervals.specs.Interval.{Set, empty}
+use Rattle.note.specs.declared.Note.{Note}
+use Rattle.note.specs.declared.OptionalNote.the-variants.{None, Some}
+use Rattle.note.specs.declared.OptionalNote.{OptionalNote}
 use Rattle.display.specs.Display.{displayOf, firstSus}
 use Rattle.evaluator.specs.Evaluator.{evalSet}
 use Rattle.expression.specs.declared.expression.Exp.{Exp}

@@ -11,14 +11,14 @@ use lib.Dec.{eqb}
 use lib.IntN.{pos}
 use lib.ListN.{length}
 use Rattle.lookahead.specs.Next.{isSign}
-use Rattle.chord.specs.Interval.{Set, minorThird, diminishedSeventh}
-use Rattle.chord.specs.declared.note.Note.{Note}
-use Rattle.chord.specs.declared.note.NoteLiteral.the-variants.{C, D, E, F, G, A, B}
-use Rattle.chord.specs.declared.note.NoteLiteral.{NoteLiteral}
-use Rattle.chord.specs.declared.note.OptionalNote.the-variants.{None, Some}
-use Rattle.chord.specs.declared.note.OptionalNote.{OptionalNote}
-use Rattle.chord.specs.declared.note.RootModifier.the-variants.{Natural, Sharp, Flat}
-use Rattle.chord.specs.declared.note.RootModifier.{RootModifier}
+use Rattle.intervals.specs.Interval.{Set, minorThird, diminishedSeventh}
+use Rattle.note.specs.declared.Note.{Note}
+use Rattle.note.specs.declared.NoteLiteral.the-variants.{C, D, E, F, G, A, B}
+use Rattle.note.specs.declared.NoteLiteral.{NoteLiteral}
+use Rattle.note.specs.declared.OptionalNote.the-variants.{None, Some}
+use Rattle.note.specs.declared.OptionalNote.{OptionalNote}
+use Rattle.note.specs.declared.RootModifier.the-variants.{Natural, Sharp, Flat}
+use Rattle.note.specs.declared.RootModifier.{RootModifier}
 use Rattle.expression.specs.declared.expression.Exp.the-variants.{Minor, Dim7, SlashBass}
 use Rattle.expression.specs.declared.expression.Exp.{Exp}
 use Rattle.folding.proofs.Calm.{calm, unchanged, in-two}

@@ -5,7 +5,7 @@ use Prim.Native.Nat.{ℕ}
 use Prim.Native.String.{String}
 use lib.Dec.{ltb}
 use lib.ListN.{length}
-use Rattle.chord.specs.declared.note.NoteLiteral.the-variants.{C, D, E, F, G, A, B}
+use Rattle.note.specs.declared.NoteLiteral.the-variants.{C, D, E, F, G, A, B}
 use Rattle.token.specs.Token.{typeNumber}
 use Rattle.token.specs.declared.TokenType.the-variants.{Note, Flat, Aug, Dim, Add, Omit, Alt, Sus, Minor, Maj, Bass, Illegal}
 use Rattle.token.specs.declared.TokenType.{TokenType}

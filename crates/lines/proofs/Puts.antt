@@ -2,13 +2,13 @@
 -- Assumes nothing.
 use mathlib.Core.List.{List, [], _∷_, _++_}
 use mathlib.Core.Path.{_≡_, refl, sym, ap, subst, _∙_}
-use Prim.Native.Nat.{ℕ, zero, suc, _+_, _-_, _≤_, _<_, min}
+use Prim.Native.Nat.{ℕ, suc, _+_, _-_, _≤_, _<_, min}
 use native.Mathlib.Omega.{arith}
 use lib.Dec.{ltb}
 use mathlib.Core.Bool.{Bool, true, false}
 use borrow.Author.Tests.{ltb-true, ltb-false}
-use lib.ListN.{length, length-append, length-set, set, take, getD, replicate, replicate-append-replicate}
-use lib.Seq.{length-sets, set-out, sets, take-length, take-suc}
+use lib.ListN.{length, length-append, set, take, getD, replicate, replicate-append-replicate}
+use lib.Seq.{length-sets, set-out, sets, take-suc}
 use Rattle.lines.specs.Output.{Put}
 
 -- stores behind the end leave the list as it is

@@ -2,10 +2,10 @@
 -- is no End.
 use mathlib.Core.Bool.{Bool, true, false}
 use Prim.Native.Nat.{ℕ}
-use Rattle.chord.specs.declared.note.OptionalNote.the-variants as optional
-use Rattle.chord.specs.declared.note.OptionalNote.{OptionalNote}
-use Rattle.chord.specs.declared.note.RootModifier.the-variants as modifier
-use Rattle.chord.specs.declared.note.RootModifier.{RootModifier}
+use Rattle.note.specs.declared.OptionalNote.the-variants as optional
+use Rattle.note.specs.declared.OptionalNote.{OptionalNote}
+use Rattle.note.specs.declared.RootModifier.the-variants as modifier
+use Rattle.note.specs.declared.RootModifier.{RootModifier}
 use Rattle.token.specs.declared.TokenType.the-variants as type
 use Rattle.token.specs.declared.TokenType.{TokenType}
 use Rattle.lookahead.specs.declared.Next.the-variants.{Note, Sharp, Flat, Extension, Maj7, Eof, Other}

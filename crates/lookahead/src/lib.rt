@@ -1,10 +1,10 @@
 // What a token after the one that is read can be to it, and the three that it can ask for.
 ghost use mathlib.Core.Path.{_≡_};
 ghost use Rattle.lookahead.specs.Next.{nextOf, numberIn, isNumber, signIn, isSign, isMaj7, isEnd, noteFrom};
-use chord::note::Note;
-use chord::note::NoteLiteral;
-use chord::note::OptionalNote;
-use chord::note::RootModifier;
+use note::Note;
+use note::NoteLiteral;
+use note::OptionalNote;
+use note::RootModifier;
 use token::TokenType;
 
 pub enum Next {

@@ -9,13 +9,14 @@ use lib.Dec.{eqb, leb, ltb}
 use lib.ListN.{List·getD-eq-default, drop, drop-of-length-le, getD, length, length-append, length-drop, replicate, set, take}
 use lib.Seq.{drop-cons, getD-drop, getD-take, length-take-le, take-suc, take-suc-set}
 use borrow.Author.Tests.{eqb-false, eqb-true, le-leb, le-ltb, lt-leb, lt-ltb, ltb-true, ltb-false, ne-eqb}
-use Rattle.chord.proofs.Store.{listed-at}
-use Rattle.chord.specs.Chord.{Four, listed}
-use Rattle.chord.specs.Interval.{Set, empty, insert}
-use Rattle.chord.specs.declared.interval.IntervalList.{IntervalList}
-use Rattle.chord.specs.declared.note.OptionalNote.the-variants.{None, Some}
-use Rattle.chord.specs.declared.note.OptionalNote.{OptionalNote}
-use Rattle.chord.specs.declared.note.RootModifier.the-variants.{Natural}
+use Rattle.intervals.proofs.Store.{listed-at}
+use Rattle.chord.specs.Chord.{Four}
+use Rattle.intervals.specs.Stored.{listed}
+use Rattle.intervals.specs.Interval.{Set, empty, insert}
+use Rattle.intervals.specs.declared.IntervalList.{IntervalList}
+use Rattle.note.specs.declared.OptionalNote.the-variants.{None, Some}
+use Rattle.note.specs.declared.OptionalNote.{OptionalNote}
+use Rattle.note.specs.declared.RootModifier.the-variants.{Natural}
 use Rattle.nophtris.specs.Boundary.{areBits, chordBytes, isAlteration, listBytes, modifierIn, noteBytes, setBytes}
 
 -- ---- a byte that is none of an arm's

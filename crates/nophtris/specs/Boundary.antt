@@ -7,12 +7,12 @@ use lib.Dec.{eqb, leb, ltb}
 use lib.IntN.{ℤ, pos, negsuc}
 use lib.ListN.{drop, getD, length, replicate, take}
 use Rattle.chord.specs.Chord.{Four}
-use Rattle.chord.specs.Interval.{Set}
-use Rattle.chord.specs.Note.{alterationOf, letterNumber, letterOf}
-use Rattle.chord.specs.declared.note.OptionalNote.the-variants.{None, Some}
-use Rattle.chord.specs.declared.note.OptionalNote.{OptionalNote}
-use Rattle.chord.specs.declared.note.RootModifier.the-variants.{Natural, Sharp, Flat}
-use Rattle.chord.specs.declared.note.RootModifier.{RootModifier}
+use Rattle.intervals.specs.Interval.{Set}
+use Rattle.note.specs.Note.{alterationOf, letterNumber, letterOf}
+use Rattle.note.specs.declared.OptionalNote.the-variants.{None, Some}
+use Rattle.note.specs.declared.OptionalNote.{OptionalNote}
+use Rattle.note.specs.declared.RootModifier.the-variants.{Natural, Sharp, Flat}
+use Rattle.note.specs.declared.RootModifier.{RootModifier}
 use Rattle.reader.specs.Reader as reader
 use Rattle.writer.specs.Writer as writer
 

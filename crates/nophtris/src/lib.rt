@@ -5,18 +5,19 @@ ghost use mathlib.Core.Path.{_≡_};
 ghost use Prim.Native.Nat.{_+_, _≤_, _<_};
 ghost use lib.Dec.{eqb, ltb};
 ghost use lib.ListN.{drop, length, take};
-ghost use Rattle.chord.specs.Chord.{fourOf, members, listed};
-ghost use Rattle.chord.specs.Interval.{insert};
+ghost use Rattle.chord.specs.Chord.{fourOf};
+ghost use Rattle.intervals.specs.Stored.{members, listed};
+ghost use Rattle.intervals.specs.Interval.{insert};
 ghost use Rattle.writer.specs.State.{Put};
 ghost use Rattle.nophtris.specs.Boundary.{alterationByte, areBits, chordBytes, inside, isAlteration, isNote, listBytes, modifierIn, noteBytes, noteIn, setBytes, valuesIn};
 ghost use Rattle.nophtris.specs.State.{Read, Write};
 use chord::Chord;
-use chord::interval::IntervalList;
-use chord::interval::IntervalSet;
-use chord::note::Note;
-use chord::note::NoteLiteral;
-use chord::note::OptionalNote;
-use chord::note::RootModifier;
+use intervals::IntervalList;
+use intervals::IntervalSet;
+use note::Note;
+use note::NoteLiteral;
+use note::OptionalNote;
+use note::RootModifier;
 
 // Writes a byte at n and answers the place behind it.
 fn put(out: &mut [u8], n: usize, byte: u8) -> usize

@@ -5,9 +5,9 @@
 ghost use Prim.Native.Nat.{_*_, _≤_};
 ghost use lib.ListN.{length};
 ghost use Rattle.io.specs.Counts.{Counts};
-use chord::note::Note;
-use chord::note::OptionalNote;
-use chord::note::RootModifier;
+use note::Note;
+use note::OptionalNote;
+use note::RootModifier;
 use lines::Input;
 
 // Appends a number, right-justified in four columns.

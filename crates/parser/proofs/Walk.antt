@@ -8,8 +8,8 @@ use native.Mathlib.Omega.{arith}
 use lib.Dec.{T as IsTrue}
 use lib.ListN.{length, drop, getD}
 use lib.Seq.{drop-drop}
-use Rattle.chord.specs.declared.note.OptionalNote.{OptionalNote}
-use Rattle.chord.specs.declared.note.RootModifier.{RootModifier}
+use Rattle.note.specs.declared.OptionalNote.{OptionalNote}
+use Rattle.note.specs.declared.RootModifier.{RootModifier}
 use Rattle.lookahead.specs.Next.{noteFrom, signIn}
 use Rattle.expression.specs.Expression.{expNumber}
 use Rattle.step.specs.Step.{insideOf}

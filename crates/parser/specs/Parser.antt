@@ -5,9 +5,9 @@ use Prim.Native.Nat.{ℕ, zero, suc}
 use lib.Dec.{eqb}
 use lib.IntN.{ℤ, pos}
 use lib.ListN.{drop}
-use Rattle.chord.specs.Interval.{majorSixth}
-use Rattle.chord.specs.declared.note.OptionalNote.the-variants as optional
-use Rattle.chord.specs.declared.note.OptionalNote.{OptionalNote}
+use Rattle.intervals.specs.Interval.{majorSixth}
+use Rattle.note.specs.declared.OptionalNote.the-variants as optional
+use Rattle.note.specs.declared.OptionalNote.{OptionalNote}
 use Rattle.expression.specs.Expression.{onExtension}
 use Rattle.expression.specs.ParserError.{numbersOf}
 use Rattle.expression.specs.declared.expression.Exp.{Exp}

@@ -13,7 +13,7 @@ use crate::state::State;
 use crate::state::ahead_of;
 use crate::state::here_at;
 use crate::state::next_at;
-use chord::note::OptionalNote;
+use note::OptionalNote;
 use expression::parser_error::ParserError;
 use lookahead::Next;
 use step::context::Context;

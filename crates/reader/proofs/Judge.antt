@@ -9,7 +9,7 @@ use native.Mathlib.Omega.{arith}
 use lib.ListN.{length, take, drop}
 use lib.Seq.{length-take-le}
 use Rattle.chord.specs.Chord.{fourOf, noChord, recordOf}
-use Rattle.chord.specs.declared.note.OptionalNote.{OptionalNote}
+use Rattle.note.specs.declared.OptionalNote.{OptionalNote}
 use Rattle.expression.specs.Expression.{expOf}
 use Rattle.expression.specs.declared.expression.Exp.{Exp}
 use Rattle.token.specs.Token.{Token}

@@ -6,7 +6,7 @@ use Prim.Native.Nat.{ℕ, _/_}
 use lib.Dec.{ltb}
 use lib.ListN.{length}
 use Rattle.chord.specs.Chord.{Four, noChord}
-use Rattle.chord.specs.declared.note.OptionalNote.{OptionalNote}
+use Rattle.note.specs.declared.OptionalNote.{OptionalNote}
 use Rattle.display.specs.Display.{displayOf, firstSus}
 use Rattle.evaluator.specs.Evaluator.{evalSet, slashBass}
 use Rattle.expression.specs.declared.expression.Exp.{Exp}

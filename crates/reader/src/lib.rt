@@ -11,7 +11,7 @@ ghost use Rattle.token.specs.Token.{Room, rows};
 ghost use Rattle.reader.specs.Reader.{parsed, tokensIn, validated};
 ghost use Rattle.reader.specs.State.{ReadGave, Read, Tokenized};
 use chord::Chord;
-use chord::note::OptionalNote;
+use note::OptionalNote;
 
 // The answer to a card; 4 and 5 carry the count of errors.
 pub enum Answer {

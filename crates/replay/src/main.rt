@@ -8,11 +8,11 @@ ghost use Prim.Native.Nat.{_<_, _≤_};
 ghost use lib.ListN.{length};
 ghost use Rattle.io.specs.Counts.{Counts};
 use chord::Chord;
-use chord::interval::IntervalList;
-use chord::interval::IntervalSet;
-use chord::note::Note;
-use chord::note::OptionalNote;
-use chord::note::RootModifier;
+use intervals::IntervalList;
+use intervals::IntervalSet;
+use note::Note;
+use note::OptionalNote;
+use note::RootModifier;
 use lines::Input;
 use reader::Answer;
 

@@ -3,10 +3,10 @@
 // its spelling is read. Printed: how many pairs of set and display list have a text, how many texts were read, how many of these were refused
 // or read as another four, and the length of the longest.
 use chord::Chord;
-use chord::interval::IntervalList;
-use chord::interval::IntervalSet;
-use chord::note::Note;
-use chord::note::OptionalNote;
+use intervals::IntervalList;
+use intervals::IntervalSet;
+use note::Note;
+use note::OptionalNote;
 
 const STDOUT: i32 = 1;
 

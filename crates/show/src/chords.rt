@@ -6,11 +6,11 @@ use crate::print::put_name;
 use crate::print::put_number;
 use crate::print::put_text;
 use chord::Chord;
-use chord::interval::IntervalSet;
-use chord::note::Note;
-use chord::note::NoteLiteral;
-use chord::note::OptionalNote;
-use chord::note::RootModifier;
+use intervals::IntervalSet;
+use note::Note;
+use note::NoteLiteral;
+use note::OptionalNote;
+use note::RootModifier;
 
 fn put_spelling(chord: Chord) {
     let mut buffer = [0u8; 112];

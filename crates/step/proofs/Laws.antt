@@ -8,8 +8,8 @@ use native.Mathlib.Omega.{arith}
 use borrow.Author.Tests.{eqb-false}
 use lib.IntN.{pos}
 use lib.{Dec.eqb, Dec.ltb, ListN.getD, Signed.ltZ}
-use Rattle.chord.specs.declared.note.OptionalNote.{OptionalNote, the-variants.Some, the-variants.None}
-use Rattle.chord.specs.declared.note.RootModifier.{RootModifier, the-variants.Natural, the-variants.Sharp, the-variants.Flat}
+use Rattle.note.specs.declared.OptionalNote.{OptionalNote, the-variants.Some, the-variants.None}
+use Rattle.note.specs.declared.RootModifier.{RootModifier, the-variants.Natural, the-variants.Sharp, the-variants.Flat}
 use Rattle.lookahead.specs.declared.Ahead.{Ahead}
 use Rattle.lookahead.specs.declared.Next.{Next}
 use Rattle.token.specs.declared.Bracket.the-variants.{Opens, Closes, Ends, Other}

@@ -4,9 +4,9 @@ use mathlib.Core.List.{List, [], _∷_}
 use Prim.Native.Nat.{ℕ}
 use lib.Dec.{ltb}
 use lib.ListN.{getD}
-use Rattle.chord.specs.Interval.{unison, minorSecond, majorSecond, minorThird, majorThird, perfectFourth, augmentedFourth, diminishedFifth, perfectFifth, augmentedFifth, minorSixth, majorSixth, minorSeventh, octave, flatNinth, ninth, sharpNinth, eleventh, sharpEleventh, flatThirteenth, thirteenth}
-use Rattle.chord.specs.declared.note.RootModifier.the-variants.{Natural, Sharp, Flat}
-use Rattle.chord.specs.declared.note.RootModifier.{RootModifier}
+use Rattle.intervals.specs.Interval.{unison, minorSecond, majorSecond, minorThird, majorThird, perfectFourth, augmentedFourth, diminishedFifth, perfectFifth, augmentedFifth, minorSixth, majorSixth, minorSeventh, octave, flatNinth, ninth, sharpNinth, eleventh, sharpEleventh, flatThirteenth, thirteenth}
+use Rattle.note.specs.declared.RootModifier.the-variants.{Natural, Sharp, Flat}
+use Rattle.note.specs.declared.RootModifier.{RootModifier}
 
 -- what stands for no interval
 abbrev pub noInterval : ℕ

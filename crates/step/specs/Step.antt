@@ -4,12 +4,12 @@ use Prim.Native.Nat.{ℕ, _+_}
 use lib.Dec.{eqb}
 use lib.IntN.{pos, _+ℤ_, _-ℤ_}
 use lib.Signed.{ltZ}
-use Rattle.chord.specs.Interval.{augmentedFourth, diminishedFifth, majorSecond, majorSeventh, majorThird, minorSecond, ninth, perfectFifth, perfectFourth}
-use Rattle.chord.specs.declared.note.Note.{Note}
-use Rattle.chord.specs.declared.note.OptionalNote.the-variants as optional
-use Rattle.chord.specs.declared.note.OptionalNote.{OptionalNote}
-use Rattle.chord.specs.declared.note.RootModifier.the-variants.{Natural, Sharp, Flat}
-use Rattle.chord.specs.declared.note.RootModifier.{RootModifier}
+use Rattle.intervals.specs.Interval.{augmentedFourth, diminishedFifth, majorSecond, majorSeventh, majorThird, minorSecond, ninth, perfectFifth, perfectFourth}
+use Rattle.note.specs.declared.Note.{Note}
+use Rattle.note.specs.declared.OptionalNote.the-variants as optional
+use Rattle.note.specs.declared.OptionalNote.{OptionalNote}
+use Rattle.note.specs.declared.RootModifier.the-variants.{Natural, Sharp, Flat}
+use Rattle.note.specs.declared.RootModifier.{RootModifier}
 use Rattle.expression.specs.declared.expression.Exp.the-variants.{Power, Bass, Maj, Maj7, Minor, HalfDim, Dim, Dim7, Alt, Aug, Sus, Extension, Add, Omit, SlashBass}
 use Rattle.expression.specs.declared.parser_error.ParserError.the-variants.{IllegalToken, UnexpectedNote, InvalidExtension, UnexpectedModifier, MissingAddTarget, IllegalOrMissingOmitTarget, IllegalSlashNotation, UnexpectedClosingParenthesis, MissingClosingParenthesis, NestedParenthesis}
 use Rattle.token.specs.declared.Bracket.the-variants.{Opens, Closes, Ends, Other}

@@ -12,14 +12,14 @@ use lib.ListN.{List·getD-append, drop, getD, length, replicate, take}
 use lib.Seq.{getD-drop, take-append-seam, take-at, take-take}
 use borrow.Author.Tests.{le-leb, ltb-false, ltb-true}
 use Rattle.chord.specs.Chord.{Four}
-use Rattle.chord.specs.Interval.{Set}
-use Rattle.chord.specs.Note.{letterNumber, letterOf}
-use Rattle.chord.specs.declared.note.NoteLiteral.the-variants.{C, D, E, F, G, A, B}
-use Rattle.chord.specs.declared.note.NoteLiteral.{NoteLiteral}
-use Rattle.chord.specs.declared.note.OptionalNote.the-variants.{None, Some}
-use Rattle.chord.specs.declared.note.OptionalNote.{OptionalNote}
-use Rattle.chord.specs.declared.note.RootModifier.the-variants.{Natural, Sharp, Flat}
-use Rattle.chord.specs.declared.note.RootModifier.{RootModifier}
+use Rattle.intervals.specs.Interval.{Set}
+use Rattle.note.specs.Note.{letterNumber, letterOf}
+use Rattle.note.specs.declared.NoteLiteral.the-variants.{C, D, E, F, G, A, B}
+use Rattle.note.specs.declared.NoteLiteral.{NoteLiteral}
+use Rattle.note.specs.declared.OptionalNote.the-variants.{None, Some}
+use Rattle.note.specs.declared.OptionalNote.{OptionalNote}
+use Rattle.note.specs.declared.RootModifier.the-variants.{Natural, Sharp, Flat}
+use Rattle.note.specs.declared.RootModifier.{RootModifier}
 use Rattle.display.specs.Display.{chosen, displayOf, order, shown}
 use Rattle.house_parts.proofs.Bools.{and-left, and-right}
 use Rattle.house_parts.specs.House.{displayBy, kindIn, susBy}

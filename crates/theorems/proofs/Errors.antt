@@ -11,11 +11,11 @@ use lib.ListN.{drop, getD, length, length-append}
 use Rattle.lookahead.specs.Next.{isEnd, isMaj7, isNumber, isSign, noteFrom, numberIn, signIn}
 use Rattle.lookahead.specs.declared.Ahead.{Ahead}
 use Rattle.lookahead.specs.declared.Next.{Next}
-use Rattle.chord.specs.Interval.{Set, empty, semitones}
-use Rattle.chord.specs.declared.note.OptionalNote.the-variants as optional
-use Rattle.chord.specs.declared.note.OptionalNote.{OptionalNote}
-use Rattle.chord.specs.declared.note.RootModifier.the-variants.{Natural, Sharp, Flat}
-use Rattle.chord.specs.declared.note.RootModifier.{RootModifier}
+use Rattle.intervals.specs.Interval.{Set, empty, semitones}
+use Rattle.note.specs.declared.OptionalNote.the-variants as optional
+use Rattle.note.specs.declared.OptionalNote.{OptionalNote}
+use Rattle.note.specs.declared.RootModifier.the-variants.{Natural, Sharp, Flat}
+use Rattle.note.specs.declared.RootModifier.{RootModifier}
 use Rattle.expression.specs.ParserError.{numbersOf, rowOf}
 use Rattle.expression.specs.declared.expression.Exp.the-variants as exp
 use Rattle.expression.specs.declared.expression.Exp.{Exp}

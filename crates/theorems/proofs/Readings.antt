@@ -11,8 +11,8 @@ use lib.Dec.{T, eqb, ltb, ltb→lt}
 use lib.ListN.{List·getD-append, drop, getD, length, length-append, length-drop}
 use borrow.Author.Tests.{ne-eqb}
 use Rattle.chord.specs.Chord.{Four, fourOf, noChord, recordOf}
-use Rattle.chord.specs.declared.note.Note.{Note}
-use Rattle.chord.specs.declared.note.OptionalNote.the-variants.{Some}
+use Rattle.note.specs.declared.Note.{Note}
+use Rattle.note.specs.declared.OptionalNote.the-variants.{Some}
 use Rattle.house_parts.proofs.Bools.{and-left, and-right}
 use Rattle.nophtris.specs.Boundary.{chordBytes, countAfter, fourIn}
 use Rattle.nophtris.specs.State as C

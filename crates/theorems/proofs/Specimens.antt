@@ -1,7 +1,7 @@
 -- By computation, from bytes to the four and the spelling.
 -- Assumes nothing.
 use mathlib.Core.Path.{refl}
-use Rattle.chord.specs.Interval.{insert, remove}
+use Rattle.intervals.specs.Interval.{insert, remove}
 use Rattle.display.specs.Display.{displayOf, order}
 use Rattle.folding.specs.Folding.{concat, count, foldOn, isMaj, join}
 use Rattle.lexer.specs.Lexer.{elem, headOf, isDigit, isLetter, lex, signOf}

@@ -7,8 +7,8 @@ use mathlib.Core.Path.{_≡_}
 use Prim.Native.Nat.{ℕ, _*_, _≤_, _<_}
 use lib.ListN.{drop, getD, length}
 use Rattle.chord.specs.Chord.{Four, fourOf, noChord, recordOf}
-use Rattle.chord.specs.declared.note.Note.{Note}
-use Rattle.chord.specs.declared.note.OptionalNote.the-variants.{Some}
+use Rattle.note.specs.declared.Note.{Note}
+use Rattle.note.specs.declared.OptionalNote.the-variants.{Some}
 use Rattle.evaluator.specs.Evaluator.{evalSet}
 use Rattle.parser.specs.Parser.{parseOf}
 use Rattle.reader.specs.Reader.{IsAccepted, answerTo, countOf, numberOf, tokensIn}

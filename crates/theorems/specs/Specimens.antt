@@ -3,10 +3,10 @@ use mathlib.Core.Bool.{cond}
 use mathlib.Core.List.{List, [], _∷_, _++_, map}
 use mathlib.Core.Path.{_≡_}
 use Prim.Native.Nat.{ℕ, zero, suc}
-use Rattle.chord.specs.Interval.{Set}
-use Rattle.chord.specs.Note.{noteNumber}
-use Rattle.chord.specs.declared.note.OptionalNote.the-variants.{None, Some}
-use Rattle.chord.specs.declared.note.OptionalNote.{OptionalNote}
+use Rattle.intervals.specs.Interval.{Set}
+use Rattle.note.specs.Note.{noteNumber}
+use Rattle.note.specs.declared.OptionalNote.the-variants.{None, Some}
+use Rattle.note.specs.declared.OptionalNote.{OptionalNote}
 use Rattle.lexer.specs.Text.{ascii}
 use Rattle.house_text.specs.Spelling.{house}
 use Rattle.reader.specs.Reader.{ReadOutcome, answerTo}

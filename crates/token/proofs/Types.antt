@@ -4,8 +4,8 @@ use mathlib.Core.Path.{_≡_, refl, ap}
 use Prim.Native.Nat.{ℕ, _+_, _-_, _<_}
 use native.Mathlib.Omega.{arith}
 use borrow.Author.Tests.{lt-ltb, le-ltb}
-use Rattle.chord.specs.declared.note.NoteLiteral.the-variants.{C, D, E, F, G, A, B}
-use Rattle.chord.specs.declared.note.NoteLiteral.{NoteLiteral}
+use Rattle.note.specs.declared.NoteLiteral.the-variants.{C, D, E, F, G, A, B}
+use Rattle.note.specs.declared.NoteLiteral.{NoteLiteral}
 use Rattle.token.specs.Token.{typeNumber, typeOf}
 use Rattle.token.specs.declared.TokenType.the-variants.{Note, Extension}
 

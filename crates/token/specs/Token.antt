@@ -5,7 +5,7 @@ use mathlib.Core.Path.{_≡_}
 use Prim.Native.Nat.{ℕ, _+_, _-_, _≤_}
 use lib.Dec.{ltb}
 use lib.ListN.{length, getD, drop}
-use Rattle.chord.specs.Note.{letterNumber, letterOf}
+use Rattle.note.specs.Note.{letterNumber, letterOf}
 use Rattle.token.specs.declared.Bracket.the-variants.{Opens, Closes, Ends, Other}
 use Rattle.token.specs.declared.Bracket.{Bracket}
 use Rattle.token.specs.declared.TokenType.the-variants.{Note, Sharp, Flat, Aug, Dim, Dim7, HalfDim, Extension, Add, Omit, Alt, Sus, Minor, Hyphen, Maj, Maj7, Slash, LParent, RParent, Comma, Bass, Illegal, Eof}

@@ -3,7 +3,7 @@ ghost use mathlib.Core.Path.{_≡_};
 ghost use Prim.Native.Nat.{_+_, _<_};
 ghost use lib.ListN.{set};
 ghost use Rattle.token.specs.Token.{bracketKind, token as tokenOf, typeOf, plainType, rows, Room, at as tokenAt};
-use chord::note::NoteLiteral;
+use note::NoteLiteral;
 
 pub enum TokenType {
     Note(NoteLiteral),

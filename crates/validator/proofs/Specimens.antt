@@ -2,7 +2,7 @@
 -- Assumes nothing.
 use mathlib.Core.List.{[], _∷_}
 use mathlib.Core.Path.{_≡_, refl}
-use Rattle.chord.specs.Interval.{insert}
+use Rattle.intervals.specs.Interval.{insert}
 use Rattle.expression.specs.declared.expression.Exp.the-variants.{Add, Aug, Extension, Maj7, Minor}
 use Rattle.validator.specs.Validator.{allFrom, among, timesOf, extensionFault, firstFrom, firstWrong, lastBelow, semitoneErrors, validationOf}
 

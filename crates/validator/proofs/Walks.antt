@@ -9,7 +9,7 @@ use borrow.Author.Tests.{lt-ltb}
 use lib.Dec.{eqb, ltb}
 use lib.ListN.{length, drop, getD, drop-of-length-le}
 use lib.Seq.{drop-cons}
-use Rattle.chord.specs.Interval.{Set, semitones}
+use Rattle.intervals.specs.Interval.{Set, semitones}
 use Rattle.expression.specs.Expression.{expOf}
 use Rattle.expression.specs.declared.expression.Exp.{Exp}
 use Rattle.expression.specs.declared.parser_error.ParserError.the-variants.{ThreeConsecutiveSemitones}

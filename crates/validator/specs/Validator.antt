@@ -4,7 +4,7 @@ use mathlib.Core.List.{List, [], _∷_, _++_}
 use Prim.Native.Nat.{ℕ, zero, suc, _+_, _%_}
 use lib.Dec.{eqb, ltb}
 use lib.ListN.{getD}
-use Rattle.chord.specs.Interval.{Set, empty, insert, semitones, minorSecond, majorSecond, minorThird, majorThird, perfectFourth, diminishedFifth, perfectFifth, augmentedFifth, minorSixth, majorSixth, diminishedSeventh, majorSeventh, flatNinth, ninth, sharpNinth, eleventh, sharpEleventh, flatThirteenth, thirteenth}
+use Rattle.intervals.specs.Interval.{Set, empty, insert, semitones, minorSecond, majorSecond, minorThird, majorThird, perfectFourth, diminishedFifth, perfectFifth, augmentedFifth, minorSixth, majorSixth, diminishedSeventh, majorSeventh, flatNinth, ninth, sharpNinth, eleventh, sharpEleventh, flatThirteenth, thirteenth}
 use Rattle.expression.specs.Expression.{onAdd, onExtension, onOmit}
 use Rattle.expression.specs.ParserError.{numbersOf}
 use Rattle.expression.specs.declared.expression.Exp.the-variants.{Power, Bass, Maj, Maj7, Minor, HalfDim, Dim, Dim7, Alt, Aug, Sus, Extension, Add, Omit, SlashBass}

@@ -4,8 +4,8 @@ ghost use mathlib.Core.Bool.{not, _&&_};
 ghost use Prim.Native.Nat.{ℕ, _+_, _*_, _%_, _≤_, _<_};
 ghost use lib.Dec.{ltb};
 ghost use lib.ListN.{getD, length};
-ghost use Rattle.chord.specs.Chord.{members};
-ghost use Rattle.chord.specs.Interval.{semitones};
+ghost use Rattle.intervals.specs.Stored.{members};
+ghost use Rattle.intervals.specs.Interval.{semitones};
 ghost use Rattle.expression.specs.declared.parser_error.ParserError.the-variants.{ThreeConsecutiveSemitones};
 ghost use Rattle.validator.specs.State.{errorOf, lastsOf, neighboursIn, Wrote};
 ghost use Rattle.validator.specs.Validator.{only, lastBelow, isNil, semitoneErrors};
@@ -13,8 +13,8 @@ use crate::fault::Fault;
 use crate::fault::fault_if;
 use crate::fault::push;
 use crate::fault::wide;
-use chord::interval::IntervalSet;
-use chord::interval::st;
+use intervals::IntervalSet;
+use intervals::st;
 use expression::parser_error::ParserError;
 
 // The last interval of each class; 23 where there is none.

@@ -9,10 +9,10 @@ use native.Mathlib.Omega.{arith}
 use lib.Dec.{T, leb, leb→le}
 use lib.ListN.{length, getD, take, replicate, length-append}
 use lib.Seq.{getD-take, length-take-le, take-suc}
-use Rattle.chord.specs.Interval.{Set}
-use Rattle.chord.specs.declared.note.Note.{Note}
-use Rattle.chord.specs.declared.note.OptionalNote.the-variants.{None}
-use Rattle.chord.specs.declared.note.OptionalNote.{OptionalNote}
+use Rattle.intervals.specs.Interval.{Set}
+use Rattle.note.specs.declared.Note.{Note}
+use Rattle.note.specs.declared.OptionalNote.the-variants.{None}
+use Rattle.note.specs.declared.OptionalNote.{OptionalNote}
 use Rattle.expression.specs.declared.expression.Exp.the-variants.{Dim7, SlashBass}
 use Rattle.house_parts.specs.House.{Part, part, condition, conditionAt, isSome, noteOrC, parts}
 use Rattle.house_parts.specs.declared.kind.SusKind.the-variants.{Plain}

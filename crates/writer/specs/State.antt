@@ -5,10 +5,10 @@ use mathlib.Core.Path.{_≡_}
 use Prim.Native.Nat.{ℕ, _+_}
 use lib.ListN.{drop, getD, length, replicate, take}
 use Rattle.chord.specs.Chord.{fourOf}
-use Rattle.chord.specs.Interval.{Set}
+use Rattle.intervals.specs.Interval.{Set}
 use Rattle.chord.specs.declared.Chord.{Chord}
-use Rattle.chord.specs.declared.note.OptionalNote.the-variants.{None}
-use Rattle.chord.specs.declared.note.OptionalNote.{OptionalNote}
+use Rattle.note.specs.declared.OptionalNote.the-variants.{None}
+use Rattle.note.specs.declared.OptionalNote.{OptionalNote}
 use Rattle.house_parts.specs.House.{conditionAt, isSome, noteOrC, parts}
 use Rattle.house_parts.specs.declared.kind.SusKind.{SusKind}
 use Rattle.lexer.specs.Text.{ascii}

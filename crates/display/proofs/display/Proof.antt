@@ -2,7 +2,7 @@
 use mathlib.Core.Path.{sym, ap, _∙_}
 use Prim.Native.Nat.{ℕ}
 use borrow.Author.Needs.{needs}
-use Rattle.chord.specs.Chord.{listOf, members}
+use Rattle.intervals.specs.Stored.{listOf, members}
 use Rattle.display.specs.Display.{displayOf}
 use Rattle.display.proofs.Order.{shown-plain}
 use Rattle.display.proofs.display.Statement.{statement}

@@ -1,8 +1,8 @@
 -- The invariant: what is in the list and what the rest of the order gives are the display list, and behind what is in it are zeros. A turn
 -- leaves the list as it is, or is one store behind its numbers, by whether the interval is a member.
 use Prim.Native.Nat.{_+_, _-_, _≤_, _<_, suc, ℕ}
-use Rattle.chord.specs.Chord.{listOf, listed, members}
-use Rattle.chord.proofs.Record.{list-whole}
+use Rattle.intervals.specs.Stored.{listOf, listed, members}
+use Rattle.intervals.proofs.Whole.{list-whole}
 use Rattle.display.proofs.Order.{append-nil, display-turn, order-length, zeros-behind}
 use Rattle.display.proofs.in_order.Statement.{statement}
 use Rattle.display.specs.Display.{chosen, displayOf, order, shown}

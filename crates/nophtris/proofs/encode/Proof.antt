@@ -4,7 +4,8 @@ use mathlib.Core.Path.{_≡_, subst}
 use Prim.Native.Nat.{ℕ}
 use native.Mathlib.Omega.{arith}
 use borrow.Author.Needs.{needs}
-use Rattle.chord.specs.Chord.{fourOf, members}
+use Rattle.chord.specs.Chord.{fourOf}
+use Rattle.intervals.specs.Stored.{members}
 use Rattle.writer.proofs.Puts.{put-then, put-length}
 use Rattle.writer.specs.State.{Put}
 use Rattle.nophtris.specs.Boundary.{chordBytes}

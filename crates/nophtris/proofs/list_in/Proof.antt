@@ -6,7 +6,7 @@ use native.Mathlib.Omega.{arith}
 use lib.ListN.{drop, getD, length, length-drop, length-set, take}
 use lib.Seq.{getD-drop, take-all}
 use borrow.Author.Needs.{needs}
-use Rattle.chord.specs.Chord.{listed}
+use Rattle.intervals.specs.Stored.{listed}
 use Rattle.nophtris.specs.Boundary.{valuesIn}
 use Rattle.nophtris.proofs.Bytes.{listed-next}
 use Rattle.nophtris.proofs.list_in.Statement.{statement}

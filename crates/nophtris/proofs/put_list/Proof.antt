@@ -7,7 +7,7 @@ use native.Mathlib.Omega.{arith}
 use lib.ListN.{length, take}
 use lib.Seq.{length-take-le, take-all}
 use borrow.Author.Needs.{needs}
-use Rattle.chord.specs.Chord.{listed}
+use Rattle.intervals.specs.Stored.{listed}
 use Rattle.writer.proofs.Puts.{put-none, put-as, put-next, put-then, put-length}
 use Rattle.writer.specs.State.{Put}
 use Rattle.nophtris.proofs.Bytes.{padded, list-at, list-length, number-of}

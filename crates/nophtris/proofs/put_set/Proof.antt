@@ -7,7 +7,7 @@ use native.Mathlib.Omega.{arith}
 use lib.ListN.{length, take}
 use lib.Seq.{length-take-le, take-all}
 use borrow.Author.Needs.{needs}
-use Rattle.chord.specs.Chord.{members}
+use Rattle.intervals.specs.Stored.{members}
 use Rattle.writer.proofs.Puts.{put-none, put-as, put-next, put-length}
 use Rattle.writer.specs.State.{Put}
 use Rattle.nophtris.specs.Boundary.{setBytes}

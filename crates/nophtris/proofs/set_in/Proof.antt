@@ -7,8 +7,8 @@ use native.Mathlib.Omega.{arith}
 use lib.Dec.{eqb, ltb}
 use lib.ListN.{getD}
 use borrow.Author.Needs.{needs}
-use Rattle.chord.specs.Chord.{members}
-use Rattle.chord.specs.Interval.{Set}
+use Rattle.intervals.specs.Stored.{members}
+use Rattle.intervals.specs.Interval.{Set}
 use Rattle.nophtris.specs.Boundary.{valuesIn}
 use Rattle.nophtris.proofs.Bytes.{inserted, none-yet}
 use Rattle.nophtris.proofs.set_in.Statement.{statement}

@@ -3,8 +3,8 @@
 use mathlib.Core.Bool.{Bool, cond}
 use mathlib.Core.Path.{sym, ap, _∙_}
 use borrow.Author.Tests.{eq-eqb, ne-eqb}
-use Rattle.chord.specs.Chord.{members}
-use Rattle.chord.specs.Interval.{insert}
+use Rattle.intervals.specs.Stored.{members}
+use Rattle.intervals.specs.Interval.{insert}
 use borrow.Author.Needs.{needs}
 use Rattle.nophtris.proofs.with_member.Statement.{statement}
 use Rattle.nophtris.proofs.with_member.Tie as tie

@@ -1,5 +1,5 @@
 -- By whether validation wrote an error.
-use Rattle.chord.specs.Interval.{Set}
+use Rattle.intervals.specs.Interval.{Set}
 use Rattle.evaluator.specs.Evaluator.{evalSet}
 use Rattle.expression.specs.Expression.{expOf}
 use Rattle.reader.proofs.Judge.{gave-errors, gave-none, untouched}

@@ -1,7 +1,6 @@
 -- The part that is compared lies within the output.
 -- Assumes nothing.
 use mathlib.Core.Path.{sym}
-use lib.ListN.{length}
 use lib.Seq.{length-take-le}
 use borrow.Author.Needs.{needs}
 use Rattle.replay.proofs.as_stored.Statement.{statement}

@@ -3,7 +3,7 @@
 use mathlib.Core.Bool.{Bool, true, false, true≢false, false≢true, not, _&&_}
 use mathlib.Core.Path.{_≡_, refl, sym, ap, _∙_}
 use borrow.Author.Needs.{needs}
-use Rattle.chord.specs.Chord.{members}
+use Rattle.intervals.specs.Stored.{members}
 use Rattle.validator.specs.Validator.{allFrom, conflictAt, isNil, semitoneErrors, setValid}
 use Rattle.validator.proofs.is_valid_set.Statement.{statement}
 use Rattle.validator.proofs.is_valid_set.Tie as tie

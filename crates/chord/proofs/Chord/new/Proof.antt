@@ -3,9 +3,9 @@
 use mathlib.Core.Path.{_≡_, sym, ap, _∙_}
 use native.Mathlib.Omega.{arith}
 use borrow.Author.Needs.{needs}
-use Rattle.chord.specs.Chord.{setOf}
-use Rattle.chord.specs.Interval.{empty}
-use Rattle.chord.proofs.Record.{set-whole}
+use Rattle.intervals.specs.Stored.{setOf}
+use Rattle.intervals.specs.Interval.{empty}
+use Rattle.intervals.proofs.Whole.{set-whole}
 use Rattle.chord.proofs.Chord.new.Statement.{statement}
 use Rattle.chord.proofs.Chord.new.Tie as tie
 

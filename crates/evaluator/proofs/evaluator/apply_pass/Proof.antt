@@ -1,6 +1,6 @@
 -- The invariant: the rest, from the set so far, gives what all of them give.
 use Prim.Native.Nat.{_+_, _-_, _≤_, suc}
-use Rattle.chord.specs.Chord.{members}
+use Rattle.intervals.specs.Stored.{members}
 use Rattle.evaluator.proofs.Walks.{from, from-none, walk-turn}
 use Rattle.evaluator.proofs.evaluator.apply_pass.Statement.{statement}
 use Rattle.evaluator.specs.Evaluator.{foldLeft}

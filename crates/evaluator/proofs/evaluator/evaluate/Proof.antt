@@ -3,8 +3,8 @@ use Rattle.evaluator.proofs.evaluator.evaluate.Statement.{statement}
 use borrow.Author.Needs.{needs}
 use mathlib.Core.Path.{sym, ap, _∙_}
 use native.Mathlib.Omega.{arith}
-use Rattle.chord.proofs.Record.{set-whole}
-use Rattle.chord.specs.Chord.{setOf}
+use Rattle.intervals.proofs.Whole.{set-whole}
+use Rattle.intervals.specs.Stored.{setOf}
 use Rattle.evaluator.proofs.evaluator.evaluate.Tie as tie
 
 evaluate-expressions-requires : tie.Need-evaluate-expressions-requires

@@ -3,7 +3,7 @@
 use mathlib.Core.List.{[], _∷_}
 use mathlib.Core.Path.{refl, subst}
 use borrow.Author.Needs.{needs}
-use Rattle.chord.specs.Chord.{members}
+use Rattle.intervals.specs.Stored.{members}
 use Rattle.step.specs.Bounds.{Sound}
 use Rattle.evaluator.specs.Evaluator.{addBy}
 use Rattle.evaluator.proofs.Rest.{rest}

@@ -3,7 +3,7 @@
 use mathlib.Core.List.{[], _∷_}
 use mathlib.Core.Path.{refl}
 use borrow.Author.Needs.{needs}
-use Rattle.chord.specs.Chord.{members}
+use Rattle.intervals.specs.Stored.{members}
 use Rattle.evaluator.specs.Evaluator.{direct}
 use Rattle.evaluator.proofs.Rest.{rest}
 use Rattle.evaluator.proofs.stages.direct.Statement.{statement}

@@ -5,8 +5,8 @@ use Prim.Native.Nat.{_-_, _≤_, _<_}
 use native.Mathlib.Omega.{arith}
 use lib.ListN.{drop, length}
 use borrow.Author.Needs.{needs}
-use Rattle.chord.proofs.Store.{listed-at}
-use Rattle.chord.specs.Chord.{listed}
+use Rattle.intervals.proofs.Store.{listed-at}
+use Rattle.intervals.specs.Stored.{listed}
 use Rattle.evaluator.specs.Evaluator.{elem}
 use Rattle.house_parts.proofs.Tests.{elem-end, elem-here, elem-past}
 use Rattle.house_parts.proofs.kind.shows.Statement.{statement}

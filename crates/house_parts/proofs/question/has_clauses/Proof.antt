@@ -6,7 +6,7 @@ use native.Mathlib.Omega.{arith}
 use lib.ListN.{drop}
 use borrow.Author.Needs.{needs}
 use borrow.Author.Tests.{not-false, not-true}
-use Rattle.chord.specs.Chord.{members}
+use Rattle.intervals.specs.Stored.{members}
 use Rattle.house_parts.specs.Question.{all, clauses}
 use Rattle.house_parts.proofs.Tests.{all-end, all-fails, all-past}
 use Rattle.house_parts.proofs.question.has_clauses.Statement.{statement}

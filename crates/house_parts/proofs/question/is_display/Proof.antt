@@ -2,7 +2,7 @@
 -- Assumes nothing.
 use mathlib.Core.Path.{ap, _∙_}
 use Prim.Native.Nat.{ℕ}
-use Rattle.chord.specs.Chord.{listed, members}
+use Rattle.intervals.specs.Stored.{listed, members}
 use Rattle.display.specs.Display.{displayOf}
 use Rattle.house_parts.specs.Question.{sameList}
 use Rattle.house_parts.proofs.Tests.{same-test}

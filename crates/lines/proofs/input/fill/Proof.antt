@@ -1,10 +1,10 @@
 -- The count of bytes read decides; nothing else is known of them.
 -- Assumes nothing.
 use mathlib.Core.Bool.{Bool, cond, false}
-use mathlib.Core.Path.{_≡_, ap, sym}
+use mathlib.Core.Path.{ap, sym}
 use Prim.Native.Nat.{_-_}
 use borrow.Author.Tests.{ne-eqb}
-use lib.Dec.{eqb, ltb}
+use lib.Dec.{ltb}
 use Rattle.lines.specs.Input.{kept}
 use borrow.Author.Needs.{needs}
 use Rattle.lines.proofs.input.fill.Statement.{statement}

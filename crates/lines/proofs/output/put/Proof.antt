@@ -1,6 +1,6 @@
 -- A byte behind the first so many is one store; without room there is none.
 -- Assumes nothing.
-use Rattle.lines.proofs.Puts.{put-one, put-out}
+use Rattle.lines.proofs.Puts.{put-out}
 use borrow.Author.Needs.{needs}
 use Rattle.lines.proofs.output.put.Statement.{statement}
 use Rattle.lines.proofs.output.put.Tie as tie

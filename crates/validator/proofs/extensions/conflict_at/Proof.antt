@@ -1,7 +1,7 @@
 -- By whether the first of the pair is a member.
 -- Assumes nothing.
 use Prim.Native.Nat.{ℕ}
-use Rattle.chord.specs.Chord.{members}
+use Rattle.intervals.specs.Stored.{members}
 use Rattle.expression.specs.declared.parser_error.ParserError.the-variants.{InconsistentExtension}
 use Rattle.validator.proofs.Arrays.{below}
 use Rattle.validator.proofs.extensions.conflict_at.Statement.{statement}

@@ -1,7 +1,7 @@
 -- By whether the interval is no extension.
 -- Assumes nothing.
-use Rattle.chord.specs.Chord.{members}
-use Rattle.chord.specs.Interval.{semitones}
+use Rattle.intervals.specs.Stored.{members}
+use Rattle.intervals.specs.Interval.{semitones}
 use Rattle.expression.specs.ParserError.{numbersOf}
 use Rattle.expression.specs.declared.parser_error.ParserError.the-variants.{DuplicateExtension, InvalidExtension}
 use Rattle.validator.proofs.extensions.fault_at.Statement.{statement}

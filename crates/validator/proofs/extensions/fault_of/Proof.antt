@@ -1,6 +1,6 @@
 -- Each arm is the definition at that expression.
 -- Assumes nothing.
-use Rattle.chord.specs.Chord.{members}
+use Rattle.intervals.specs.Stored.{members}
 use Rattle.validator.proofs.extensions.fault_of.Statement.{statement}
 use Rattle.validator.proofs.extensions.fault_of.Tie as tie
 use Rattle.validator.specs.Validator.{faultOf}

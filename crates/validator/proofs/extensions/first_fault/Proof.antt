@@ -1,8 +1,8 @@
 -- The invariant: what is found from here on, with what was seen, is what is found at all.
 -- Assumes nothing.
 use Prim.Native.Nat.{_-_, _≤_, _+_}
-use Rattle.chord.specs.Chord.{members}
-use Rattle.chord.specs.Interval.{Set, empty}
+use Rattle.intervals.specs.Stored.{members}
+use Rattle.intervals.specs.Interval.{Set, empty}
 use Rattle.expression.specs.Expression.{expOf}
 use Rattle.validator.proofs.Choices.{found, passed}
 use Rattle.validator.proofs.Walks.{expsFrom, fault-step, fault-end}

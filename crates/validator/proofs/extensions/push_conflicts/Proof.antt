@@ -1,7 +1,7 @@
 -- The invariant: the errors below i are written.
 -- Assumes nothing.
 use Prim.Native.Nat.{_-_, _≤_, _+_}
-use Rattle.chord.specs.Chord.{members}
+use Rattle.intervals.specs.Stored.{members}
 use Rattle.validator.proofs.Lists.{wrote-none, wrote-then, wrote-as}
 use Rattle.validator.proofs.Walks.{all-start, all-step}
 use Rattle.validator.proofs.extensions.push_conflicts.Statement.{statement}

@@ -1,7 +1,7 @@
 -- Each arm is the definition at that expression.
 -- Assumes nothing.
-use Rattle.chord.specs.Chord.{members}
-use Rattle.chord.specs.Interval.{insert}
+use Rattle.intervals.specs.Stored.{members}
+use Rattle.intervals.specs.Interval.{insert}
 use Rattle.validator.proofs.extensions.seeing_one.Statement.{statement}
 use Rattle.validator.proofs.extensions.seeing_one.Tie as tie
 use Rattle.validator.specs.Validator.{seeing}

@@ -1,6 +1,6 @@
 -- Every number of the table is below 23, and beyond its end it has 0.
 -- Assumes nothing.
-use Rattle.chord.specs.Interval.{table}
+use Rattle.intervals.specs.Interval.{table}
 use Rattle.validator.proofs.Arrays.{below}
 use Rattle.validator.proofs.extensions.semitones_of.Statement.{statement}
 use Rattle.validator.proofs.extensions.semitones_of.Tie as tie

@@ -1,6 +1,6 @@
 -- By whether an extension has a fault.
 -- Assumes nothing.
-use Rattle.chord.specs.Chord.{members}
+use Rattle.intervals.specs.Stored.{members}
 use Rattle.validator.proofs.Choices.{found, passed}
 use Rattle.validator.proofs.Lists.{wrote-as}
 use Rattle.validator.proofs.extensions.validate_extensions.Statement.{statement}

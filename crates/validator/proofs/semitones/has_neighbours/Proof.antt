@@ -5,7 +5,7 @@ use mathlib.Core.Path.{_≡_, refl, sym, ap, _∙_}
 use Prim.Native.Nat.{_-_, _≤_, _+_}
 use native.Mathlib.Omega.{arith}
 use borrow.Author.Needs.{needs}
-use Rattle.chord.specs.Chord.{members}
+use Rattle.intervals.specs.Stored.{members}
 use Rattle.validator.specs.Validator.{allFrom, isNil}
 use Rattle.validator.specs.State.{lastsOf, neighboursIn}
 use Rattle.validator.proofs.Choices.{none-found, some-found}

@@ -1,8 +1,8 @@
 -- The invariant: the last of each class below i. A turn leaves the array as it is, or is one store, by whether the interval is in the set.
 -- Assumes nothing.
 use Prim.Native.Nat.{ℕ, _-_, _≤_, _<_, _%_}
-use Rattle.chord.specs.Chord.{members}
-use Rattle.chord.specs.Interval.{semitones}
+use Rattle.intervals.specs.Stored.{members}
+use Rattle.intervals.specs.Interval.{semitones}
 use Rattle.validator.proofs.Arrays.{put-at, sized}
 use Rattle.validator.proofs.Walks.{last-start, last-step}
 use Rattle.validator.proofs.semitones.last_of_class.Statement.{statement}

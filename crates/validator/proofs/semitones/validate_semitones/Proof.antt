@@ -1,7 +1,7 @@
 -- The invariant: the errors of the classes below c are written.
 -- Assumes nothing.
 use Prim.Native.Nat.{ℕ, _-_, _≤_, _+_}
-use Rattle.chord.specs.Chord.{members}
+use Rattle.intervals.specs.Stored.{members}
 use Rattle.validator.proofs.Lists.{wrote-none, wrote-then, wrote-as}
 use Rattle.validator.proofs.Walks.{all-start, all-step, semitones-same}
 use Rattle.validator.proofs.semitones.validate_semitones.Statement.{statement}

@@ -4,8 +4,8 @@ use mathlib.Core.Path.{sym, ap, _∙_}
 use native.Mathlib.Omega.{arith}
 use lib.ListN.{length}
 use borrow.Author.Needs.{needs}
-use Rattle.chord.specs.Chord.{members}
-use Rattle.chord.specs.declared.note.OptionalNote.the-variants.{None}
+use Rattle.intervals.specs.Stored.{members}
+use Rattle.note.specs.declared.OptionalNote.the-variants.{None}
 use Rattle.writer.proofs.Parts.{part-named, part-unnamed}
 use Rattle.writer.proofs.Puts.{put-none, put-as}
 use Rattle.writer.proofs.spelling.put_part.Statement.{statement}

@@ -4,7 +4,7 @@ use mathlib.Core.Path.{_≡_, sym, ap, _∙_}
 use Prim.Native.Nat.{ℕ, _-_, _≤_}
 use native.Mathlib.Omega.{arith}
 use borrow.Author.Needs.{needs}
-use Rattle.chord.specs.Chord.{members}
+use Rattle.intervals.specs.Stored.{members}
 use Rattle.writer.proofs.Parts.{soFar, so-far-none, so-far-some, so-far-all, next-part, next-room}
 use Rattle.writer.proofs.Puts.{put-none, put-then, put-as, put-length}
 use Rattle.writer.proofs.spelling.put_parts.Statement.{statement}

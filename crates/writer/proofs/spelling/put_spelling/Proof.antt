@@ -3,7 +3,7 @@
 use mathlib.Core.Path.{refl, sym}
 use native.Mathlib.Omega.{arith}
 use borrow.Author.Needs.{needs}
-use Rattle.chord.specs.Chord.{members}
+use Rattle.intervals.specs.Stored.{members}
 use Rattle.writer.proofs.Parts.{note-room, parts-room, spell-room, spell-parts}
 use Rattle.writer.proofs.Puts.{put-then, put-as, put-length}
 use Rattle.writer.proofs.spelling.put_spelling.Statement.{statement}
