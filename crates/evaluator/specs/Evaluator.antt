@@ -4,7 +4,7 @@ use mathlib.Core.Bool.{Bool, true, false, _&&_, _||_, cond}
 use mathlib.Core.List.{List, [], _∷_}
 use Prim.Native.Nat.{ℕ, max}
 use lib.Dec.{eqb, leb}
-use Rattle.intervals.specs.Interval.{Set, empty, insert, remove, removeThenAdd, unison, minorSecond, majorSecond, minorThird, majorThird, perfectFourth, augmentedFourth, diminishedFifth, perfectFifth, augmentedFifth, minorSixth, majorSixth, diminishedSeventh, minorSeventh, majorSeventh, flatNinth, ninth, sharpNinth, eleventh, sharpEleventh, flatThirteenth, thirteenth}
+use Rattle.intervals.specs.Interval.{elem, Set, empty, insert, remove, removeThenAdd, unison, minorSecond, majorSecond, minorThird, majorThird, perfectFourth, augmentedFourth, diminishedFifth, perfectFifth, augmentedFifth, minorSixth, majorSixth, diminishedSeventh, minorSeventh, majorSeventh, flatNinth, ninth, sharpNinth, eleventh, sharpEleventh, flatThirteenth, thirteenth}
 use Rattle.note.specs.declared.OptionalNote.the-variants as optional
 use Rattle.note.specs.declared.OptionalNote.{OptionalNote}
 use Rattle.expression.specs.Expression.{onAdd, onExtension, onSlashBass, onSus}
@@ -13,7 +13,7 @@ use Rattle.expression.specs.declared.expression.Exp.{Exp}
 use Rattle.evaluator.specs.declared.ast.BaseForm.the-variants as form
 use Rattle.evaluator.specs.declared.ast.BaseForm.{BaseForm}
 
--- a list from left to right, one member of a list with a property, and a number in a list
+-- a list from left to right, and one member of a list with a property
 abbrev pub foldLeft {ℓ κ} : {A : Type ℓ} {B : Type κ} → (B → A → B) → B → List A → B
 foldLeft f b [] = b
 foldLeft f b (a ∷ l) = foldLeft f (f b a) l
@@ -21,9 +21,6 @@ foldLeft f b (a ∷ l) = foldLeft f (f b a) l
 abbrev pub any {ℓ} : {A : Type ℓ} → (A → Bool) → List A → Bool
 any f [] = false
 any f (a ∷ l) = f a || any f l
-
-abbrev pub elem : ℕ → List ℕ → Bool
-elem x l = any (eqb x) l
 
 -- `seed_defaults`
 abbrev pub seed : Set

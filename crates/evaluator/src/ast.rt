@@ -3,6 +3,7 @@ ghost use mathlib.Core.Path.{_≡_};
 ghost use Rattle.intervals.specs.Stored.{members};
 ghost use Rattle.evaluator.specs.declared.ast.BaseForm.the-variants as form;
 ghost use Rattle.evaluator.specs.Evaluator.{priority, transition, applyForm, isMajor, formOf};
+use expression::expression::Exp;
 use intervals::DIMINISHED_FIFTH;
 use intervals::DIMINISHED_SEVENTH;
 use intervals::IntervalSet;
@@ -10,7 +11,6 @@ use intervals::MAJOR_THIRD;
 use intervals::MINOR_SEVENTH;
 use intervals::MINOR_THIRD;
 use intervals::PERFECT_FIFTH;
-use expression::expression::Exp;
 
 pub enum BaseForm {
     Major,

@@ -22,13 +22,13 @@ use crate::stages::is_sus4;
 use crate::stages::omit_by;
 use crate::stages::prune;
 use crate::stages::sus_of;
+use expression::expression::Exp;
 use intervals::IntervalList;
 use intervals::IntervalSet;
 use intervals::MAJOR_THIRD;
 use intervals::PERFECT_FIFTH;
 use intervals::UNISON;
 use note::OptionalNote;
-use expression::expression::Exp;
 
 // What the expressions say before the stages.
 pub struct Descriptor {

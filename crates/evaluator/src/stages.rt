@@ -1,11 +1,13 @@
 // What one expression does in each stage, and the stages that ask for no expression.
 ghost use mathlib.Core.Path.{_≡_};
 ghost use Prim.Native.Nat.{_<_};
+ghost use Rattle.intervals.specs.Interval.{elem};
 ghost use Rattle.intervals.specs.Stored.{members};
 ghost use Rattle.expression.specs.declared.expression.Exp.the-variants as exp;
 ghost use Rattle.step.specs.Bounds.{Sound};
 ghost use Rattle.display.specs.Display.{susOf};
-ghost use Rattle.evaluator.specs.Evaluator.{elem, alterations, direct, isSus4, isMaj, extOf, extAt, bassOf, removeThirds, applySus, alter, alterBy, imply9, imply11, imply7, implied13, implied11, implied9, implied, omit, omitBy, add, addBy, prune6, prune11};
+ghost use Rattle.evaluator.specs.Evaluator.{alterations, direct, isSus4, isMaj, extOf, extAt, bassOf, removeThirds, applySus, alter, alterBy, imply9, imply11, imply7, implied13, implied11, implied9, implied, omit, omitBy, add, addBy, prune6, prune11};
+use expression::expression::Exp;
 use intervals::AUGMENTED_FIFTH;
 use intervals::AUGMENTED_FOURTH;
 use intervals::DIMINISHED_FIFTH;
@@ -29,7 +31,6 @@ use intervals::SHARP_ELEVENTH;
 use intervals::SHARP_NINTH;
 use intervals::THIRTEENTH;
 use note::OptionalNote;
-use expression::expression::Exp;
 
 // A sixth or a seventh goes into the set at once.
 fn insert_direct(s: IntervalSet, interval: u8) -> IntervalSet

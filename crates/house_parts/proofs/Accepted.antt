@@ -9,13 +9,13 @@ use Prim.Native.Nat.{ℕ, zero, suc, _+_, _≤_}
 use native.Mathlib.Omega.{arith}
 use lib.Dec.{T, eqb, leb, leb→le}
 use borrow.Author.Tests.{le-ltb}
-use Rattle.intervals.specs.Interval.{Set, empty, insert, semitones}
+use Rattle.intervals.specs.Interval.{elem, Set, empty, insert, semitones}
 use Rattle.note.specs.declared.OptionalNote.{OptionalNote}
 use Rattle.expression.specs.ParserError.{numbersOf}
 use Rattle.expression.specs.declared.expression.Exp.the-variants.{Power, Bass, Maj, Maj7, Minor, HalfDim, Dim, Dim7, Alt, Aug, Sus, Extension, Add, Omit, SlashBass}
 use Rattle.expression.specs.declared.expression.Exp.{Exp}
 use Rattle.expression.specs.declared.parser_error.ParserError.the-variants.{DuplicateModifier, DuplicateExtension, InvalidExtension}
-use Rattle.validator.specs.Validator.{among, badExtensions, timesOf, extensionFault, faultOf, firstFrom, firstWrong, isNil, only, orElse, priorityOf, repeated, repeatedAt, seeing, wrongOf}
+use Rattle.validator.specs.Validator.{badExtensions, timesOf, extensionFault, faultOf, firstFrom, firstWrong, isNil, only, orElse, priorityOf, repeated, repeatedAt, seeing, wrongOf}
 use Rattle.house_parts.specs.House.{Part, part, parts, select, spellExps}
 use Rattle.house_parts.specs.declared.kind.SusKind.the-variants.{Plain, Flat2, Second, Sharp4}
 use Rattle.house_parts.specs.declared.kind.SusKind.{SusKind}
@@ -113,7 +113,7 @@ less-fault s r w Dim7 t = refl
 less-fault s r w Alt t = refl
 less-fault s r w Aug t = refl
 less-fault s r w (Sus x) t = refl
-less-fault s r w (Extension x p) t = go (among badExtensions x) (s (semitones x)) (r (semitones x)) (w (semitones x)) t
+less-fault s r w (Extension x p) t = go (elem x badExtensions) (s (semitones x)) (r (semitones x)) (w (semitones x)) t
   where
     go : (bad a b : Bool) → (T a → T b) → T (isNil (cond bad (numbersOf (InvalidExtension p)) (only b (DuplicateExtension p))))
         → cond bad (numbersOf (InvalidExtension p)) (only a (DuplicateExtension p)) ≡ []

@@ -6,11 +6,12 @@ use mathlib.Core.List.{List, [], _∷_}
 use mathlib.Core.Path.{_≡_, refl, sym, subst}
 use Prim.Native.Nat.{ℕ}
 use lib.Dec.{T, eqb, ltb, lt→ltb}
+use Rattle.intervals.specs.Interval.{elem}
 use Rattle.expression.specs.declared.expression.Exp.the-variants.{Power, Bass, Maj, Maj7, Minor, HalfDim, Dim, Dim7, Alt, Aug, Sus, Extension, Add, Omit, SlashBass}
 use Rattle.expression.specs.declared.expression.Exp.{Exp}
 use Rattle.expression.specs.declared.parser_error.ParserError.the-variants.{WrongExpressionTarget}
 use Rattle.step.specs.Bounds.{Sound}
-use Rattle.validator.specs.Validator.{addTargets, among, firstWrong, isNil, omitTargets, only, orElse, wrongOf}
+use Rattle.validator.specs.Validator.{addTargets, firstWrong, isNil, omitTargets, only, orElse, wrongOf}
 use Rattle.house_parts.proofs.Bools.{both-pass}
 use Rattle.house_parts.proofs.Struct.{allowed, allows}
 
@@ -43,8 +44,8 @@ allows-of Alt s w = tt
 allows-of Aug s w = tt
 allows-of (Sus x) s w = lt→ltb x 23 s
 allows-of (Extension x p) s w = both-pass (ltb x 23) (not (eqb x 6)) (lt→ltb x 23 (s .0)) (subst (λ (b : Bool). T (not b)) (sym (s .1)) tt)
-allows-of (Add x p) s w = both-pass (ltb x 23) (among addTargets x) (lt→ltb x 23 s) (target-right (among addTargets x) p w)
-allows-of (Omit x p) s w = both-pass (ltb x 23) (among omitTargets x) (lt→ltb x 23 s) (target-right (among omitTargets x) p w)
+allows-of (Add x p) s w = both-pass (ltb x 23) (elem x addTargets) (lt→ltb x 23 s) (target-right (elem x addTargets) p w)
+allows-of (Omit x p) s w = both-pass (ltb x 23) (elem x omitTargets) (lt→ltb x 23 s) (target-right (elem x omitTargets) p w)
 allows-of (SlashBass n) s w = tt
 
 -- and so of a list. Sounds says that each is sound; `λ e l s. s` is what the parser's `All Sound` gives for the next argument

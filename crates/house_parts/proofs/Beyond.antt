@@ -9,10 +9,10 @@ use Prim.Native.Nat.{ℕ, _≤_, _<_}
 use native.Mathlib.Omega.{arith}
 use lib.Dec.{T, eqb, ltb, ltb→lt}
 use borrow.Author.Tests.{ltb-false, ltb-true, ne-eqb}
-use Rattle.intervals.specs.Interval.{Set, empty, insert, remove, removeThenAdd}
+use Rattle.intervals.specs.Interval.{elem, Set, empty, insert, remove, removeThenAdd}
 use Rattle.note.specs.declared.OptionalNote.{OptionalNote}
 use Rattle.display.specs.Display.{firstSus}
-use Rattle.evaluator.specs.Evaluator.{foldLeft, any, elem, direct, alter, omit, add, alterBy, omitBy, addBy, alterations, altsOf, omitsOf, addsOf, applyForm, applySus, baseForm, imply, imply7, imply9, imply11, implied, implied9, implied11, implied13, isMaj, isMajor, isSus4, maxExt, prune6, prune11, removeThirds, seed, evalSet}
+use Rattle.evaluator.specs.Evaluator.{foldLeft, any, direct, alter, omit, add, alterBy, omitBy, addBy, alterations, altsOf, omitsOf, addsOf, applyForm, applySus, baseForm, imply, imply7, imply9, imply11, implied, implied9, implied11, implied13, isMaj, isMajor, isSus4, maxExt, prune6, prune11, removeThirds, seed, evalSet}
 use Rattle.evaluator.specs.declared.ast.BaseForm.the-variants as form
 use Rattle.evaluator.specs.declared.ast.BaseForm.{BaseForm}
 use Rattle.expression.specs.declared.expression.Exp.the-variants.{Power, Bass, Maj, Maj7, Minor, HalfDim, Dim, Dim7, Alt, Aug, Sus, Extension, Add, Omit, SlashBass}

@@ -8,8 +8,8 @@ use mathlib.Core.Path.{_≡_, refl, sym, _∙_, ap, ap₂, fun-ext}
 use Prim.Native.Nat.{ℕ, max}
 use native.Mathlib.Omega.{arith}
 use lib.Dec.{T, eqb, eqb→eq}
-use Rattle.intervals.specs.Interval.{Set, empty, insert, remove, removeThenAdd}
-use Rattle.evaluator.specs.Evaluator.{foldLeft, any, elem, direct, alter, omit, add, alterBy, omitBy, addBy, altsOf, omitsOf, addsOf, removeThirds, extOf, extAt, formOf, formAt, transition, isMajor, applyForm, applySus, prune6, prune11, evalSet, isSus4, isMaj, seed, implied, baseForm}
+use Rattle.intervals.specs.Interval.{elem, Set, empty, insert, remove, removeThenAdd}
+use Rattle.evaluator.specs.Evaluator.{foldLeft, any, direct, alter, omit, add, alterBy, omitBy, addBy, altsOf, omitsOf, addsOf, removeThirds, extOf, extAt, formOf, formAt, transition, isMajor, applyForm, applySus, prune6, prune11, evalSet, isSus4, isMaj, seed, implied, baseForm}
 use Rattle.evaluator.specs.declared.ast.BaseForm.the-variants as form
 use Rattle.evaluator.specs.declared.ast.BaseForm.{BaseForm}
 use Rattle.expression.specs.declared.expression.Exp.the-variants.{Power, Bass, Maj, Maj7, Minor, HalfDim, Dim, Dim7, Alt, Aug, Sus, Extension, Add, Omit, SlashBass}

@@ -7,9 +7,9 @@ use mathlib.Core.List.{List, [], _∷_}
 use mathlib.Core.Path.{_≡_, refl, sym, _∙_, ap, subst}
 use Prim.Native.Nat.{ℕ}
 use lib.Dec.{T, eqb, eqb→eq}
-use Rattle.intervals.specs.Interval.{Set, semitones}
+use Rattle.intervals.specs.Interval.{elem, Set, semitones}
 use Rattle.display.specs.Display.{chosen, displayOf, numbers, order, shown, sortBy}
-use Rattle.evaluator.specs.Evaluator.{any, elem}
+use Rattle.evaluator.specs.Evaluator.{any}
 use Rattle.house_parts.specs.House.{displayBy, isFlat2, isSecond, isSharp4, kindIn, kindOf, susBy}
 use Rattle.house_parts.specs.declared.kind.SusKind.the-variants.{Plain, Flat2, Second, Sharp4}
 use Rattle.house_parts.specs.declared.kind.SusKind.{SusKind}

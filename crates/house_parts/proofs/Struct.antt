@@ -4,10 +4,10 @@
 use mathlib.Core.Bool.{Bool, true, false, not, _&&_}
 use mathlib.Core.List.{List, [], _∷_}
 use lib.Dec.{T, eqb, ltb}
-use Rattle.intervals.specs.Interval.{Set, unison, minorSecond, minorThird, majorThird, augmentedFourth, diminishedFifth, perfectFifth, augmentedFifth, majorSixth, diminishedSeventh, octave, flatNinth, ninth, eleventh, sharpEleventh, flatThirteenth, thirteenth}
+use Rattle.intervals.specs.Interval.{elem, Set, unison, minorSecond, minorThird, majorThird, augmentedFourth, diminishedFifth, perfectFifth, augmentedFifth, majorSixth, diminishedSeventh, octave, flatNinth, ninth, eleventh, sharpEleventh, flatThirteenth, thirteenth}
 use Rattle.expression.specs.declared.expression.Exp.the-variants.{Power, Bass, Maj, Maj7, Minor, HalfDim, Dim, Dim7, Alt, Aug, Sus, Extension, Add, Omit, SlashBass}
 use Rattle.expression.specs.declared.expression.Exp.{Exp}
-use Rattle.validator.specs.Validator.{addTargets, among, omitTargets}
+use Rattle.validator.specs.Validator.{addTargets, omitTargets}
 use Rattle.house_parts.specs.House.{isFlat2, isSecond, isSharp4, isSus}
 use Rattle.house_parts.specs.declared.kind.SusKind.{SusKind}
 use Rattle.house_parts.specs.Question.{_⇒_, all, clauses}
@@ -95,8 +95,8 @@ allows Alt = true
 allows Aug = true
 allows (Sus x) = ltb x 23
 allows (Extension x p) = ltb x 23 && not (eqb x augmentedFourth)
-allows (Add x p) = ltb x 23 && among addTargets x
-allows (Omit x p) = ltb x 23 && among omitTargets x
+allows (Add x p) = ltb x 23 && elem x addTargets
+allows (Omit x p) = ltb x 23 && elem x omitTargets
 allows (SlashBass n) = true
 
 -- and so is each of a list

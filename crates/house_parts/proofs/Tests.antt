@@ -10,11 +10,10 @@ use lib.Dec.{T, eqb, eqb-refl, eqb→eq}
 use lib.ListN.{length, drop, drop-of-length-le, getD}
 use lib.Seq.{drop-cons}
 use borrow.Author.Tests.{eq-eqb, eqb-false, ne-eqb}
-use Rattle.evaluator.specs.Evaluator.{elem}
+use Rattle.intervals.specs.Interval.{elem}
 use Rattle.house_parts.specs.Question.{all, sameList}
 use Rattle.house_parts.proofs.Bools.{and-left, and-right, both-pass}
-use Rattle.validator.proofs.Choices.{Away, not-among}
-use Rattle.validator.specs.Validator.{among}
+use Rattle.validator.proofs.Choices.{Away, not-elem}
 
 -- ---- equal lists
 
@@ -89,5 +88,5 @@ below (suc k) p t i h = by (eqb i k) refl (λ e. below k p (and-right (p k) (upT
     by true e f = subst (λ (j : ℕ). T (p j)) (sym (eqb→eq i k (subst T (sym e) tt))) (and-left (p k) (upTo k p) t)
     by false e f = f e
 
-pub no-arm : (n k : ℕ) (ks : List ℕ) → T (upTo k (among ks)) → n < k → Away n Unit ks → {X : Type 0} → X
-no-arm n k ks t h a = absurd (subst T (sym (not-among n ks a)) (below k (among ks) t n h))
+pub no-arm : (n k : ℕ) (ks : List ℕ) → T (upTo k (λ k. elem k ks)) → n < k → Away n Unit ks → {X : Type 0} → X
+no-arm n k ks t h a = absurd (subst T (sym (not-elem n ks a)) (below k (λ k. elem k ks) t n h))

@@ -2,8 +2,8 @@
 ghost use mathlib.Core.Bool.{not, _&&_};
 ghost use mathlib.Core.Path.{_≡_};
 ghost use Prim.Native.Nat.{_<_};
+ghost use Rattle.intervals.specs.Interval.{elem};
 ghost use Rattle.intervals.specs.Stored.{members, listed};
-ghost use Rattle.evaluator.specs.Evaluator.{elem};
 ghost use Rattle.house_parts.specs.House.{isFlat2, isSecond, isSharp4, isSus, kindIn, susBy};
 use intervals::AUGMENTED_FOURTH;
 use intervals::FLAT_NINTH;

@@ -25,7 +25,7 @@ use Rattle.folding.proofs.Calm.{calm, unchanged, in-two}
 use Rattle.folding.specs.Folding.{concat, count, dim, dim7, fold7, foldOn, isMaj, join, maj, maj7, preProcess}
 use Rattle.house_parts.specs.House.{given, isSome, noteOrC, spellExps}
 use Rattle.house_parts.specs.declared.kind.SusKind.{SusKind}
-use Rattle.lexer.specs.Lexer.{elem, endOf, headOf, isDigit, isLetter, lex, signOf, tokensOf}
+use Rattle.lexer.specs.Lexer.{endOf, headOf, isDigit, isLetter, lex, signOf, tokensOf}
 use Rattle.lexer.specs.Text.{ascii}
 use Rattle.lexer.specs.Words.{longestOf, words}
 use Rattle.parser.specs.Parser.{Parsing, lastSix, nextAt, parseOf, rootOf, walk}
@@ -160,7 +160,7 @@ unmarked z h = ap (λ (b : Bool). walk [] (record { skip = cond b 1 0; count = p
 
 -- each head is as asked; where the letter is the last of it, what follows is no sign
 head : (a : RootModifier) (f : Form) (l : NoteLiteral) → Head a f l
-unfolding elem headOf isDigit isLetter lex signOf longestOf words concat count foldOn isMaj join lastSix walk typeOf bits charOf encode isScalar
+unfolding headOf isDigit isLetter lex signOf longestOf words concat count foldOn isMaj join lastSix walk typeOf bits charOf encode isScalar
 head Natural plain =
     each-letter (Head Natural plain)
     (record { goes = refl; ends = refl; no-dim = refl; no-maj = refl; rooted = λ z h. ap (λ (m : RootModifier). Some (record { literal = C; modifier = m })) (h .1); parses = λ z h. unmarked z (h .0) })
@@ -245,7 +245,7 @@ head Flat diminished =
 
 -- a head is cut by itself
 head-apart : (a : RootModifier) (f : Form) (l : NoteLiteral) (r : List ℕ) → Border r → Apart 0 (headText l a f) r
-unfolding elem headOf isDigit isLetter lex signOf longestOf words concat count foldOn isMaj join lastSix walk typeOf bits charOf encode isScalar
+unfolding headOf isDigit isLetter lex signOf longestOf words concat count foldOn isMaj join lastSix walk typeOf bits charOf encode isScalar
 head-apart Natural plain = each-letter (λ (l : NoteLiteral). (r : List ℕ) → Border r → Apart 0 (headText l Natural plain) r)
     (by-border (Apart 0 (headText C Natural plain)) refl (λ r. refl) (λ r. refl))
     (by-border (Apart 0 (headText D Natural plain)) refl (λ r. refl) (λ r. refl))
@@ -349,7 +349,7 @@ Over q e a l = Closing (Some (record { literal = l; modifier = a })) q e
 
 -- each bass is as asked; End gains nothing
 over : (q e : ℕ) (a : RootModifier) (l : NoteLiteral) → Over q e a l
-unfolding elem headOf isDigit isLetter lex signOf longestOf words concat count foldOn isMaj join lastSix walk typeOf bits charOf encode isScalar
+unfolding headOf isDigit isLetter lex signOf longestOf words concat count foldOn isMaj join lastSix walk typeOf bits charOf encode isScalar
 over q e Natural =
     each-letter (Over q e Natural)
     (record { no-dim = refl; no-maj = refl; unsigned = (refl, refl); parses = λ xs. ap found (append-nil (xs ++ _)) })
@@ -380,7 +380,7 @@ over q e Flat =
 
 -- and so is none
 close : (b : OptionalNote) (q e : ℕ) → Closing b q e
-unfolding elem headOf isDigit isLetter lex signOf longestOf words concat count foldOn isMaj join lastSix walk typeOf bits charOf encode isScalar
+unfolding headOf isDigit isLetter lex signOf longestOf words concat count foldOn isMaj join lastSix walk typeOf bits charOf encode isScalar
 close None q e = record { no-dim = refl; no-maj = refl; unsigned = (refl, refl); parses = λ xs. refl }
 close (Some n) q e = over q e (n .modifier) (n .literal)
 

@@ -82,6 +82,11 @@ table = 0 ∷ 1 ∷ 2 ∷ 3 ∷ 4 ∷ 5 ∷ 6 ∷ 6 ∷ 7 ∷ 8 ∷ 8 ∷ 9 ∷ 
 abbrev pub semitones : ℕ → ℕ
 semitones i = getD table i 0
 
+-- is a number one of a list's?
+abbrev pub elem : ℕ → List ℕ → Bool
+elem x [] = false
+elem x (y ∷ ys) = eqb x y || elem x ys
+
 -- A set is which numbers are its members. "Insert, remove, contains and subset are as in mathematics": contains is the set itself.
 abbrev pub Set : Type 0
 Set = ℕ → Bool

@@ -11,10 +11,11 @@ use lib.Dec.{T, eqb, ltb}
 use lib.ListN.{length, getD, drop, length-drop}
 use lib.Seq.{drop-cons}
 use borrow.Author.Tests.{le-leb, lt-leb, lt-ltb, le-ltb, ne-eqb, eqb-false}
+use Rattle.intervals.specs.Interval.{elem}
 use Rattle.utf8.specs.Utf8.{charAt, charOf, begins}
 use Rattle.utf8.specs.declared.Found.the-variants as utf8
 use Rattle.utf8.specs.declared.Found.{Found}
-use Rattle.lexer.specs.Lexer.{isLetter, isDigit, digitOf, elem, twoDigits, oneDigit, digitIn, numberHead, numberBy, wordHead, signHead, signOf, headBy, headOf, sizeOf}
+use Rattle.lexer.specs.Lexer.{isLetter, isDigit, digitOf, twoDigits, oneDigit, digitIn, numberHead, numberBy, wordHead, signHead, signOf, headBy, headOf, sizeOf}
 use Rattle.lexer.specs.Words.{Word, match, words, better, longestOf, longest}
 use Rattle.lexer.specs.declared.Head.the-variants as head
 use Rattle.lexer.specs.declared.Head.{Head}
@@ -66,7 +67,6 @@ module _ (c : ℕ) {d : ℕ} (e : d ≡ digitOf c) where
 
 -- one digit alone makes no number of two, whatever bytes stand behind it
 lone : (d : ℕ) → elem (10 * d + 10) twoDigits ≡ false
-unfolding elem
 lone d = rw (ne-eqb (10 * d + 10) 11 (λ e. omega arith), ne-eqb (10 * d + 10) 13 (λ e. omega arith))
 
 lone-head : (d n m k : ℕ) → numberHead d n 10 m ≡ numberHead d n 10 k

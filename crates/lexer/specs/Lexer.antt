@@ -1,9 +1,10 @@
 -- From bytes to tokens (document 01, the section of that name).
-use mathlib.Core.Bool.{Bool, false, _&&_, _||_, cond}
+use mathlib.Core.Bool.{Bool, _&&_, _||_, cond}
 use mathlib.Core.List.{List, [], _∷_, _++_}
 use Prim.Native.Nat.{ℕ, zero, suc, _+_, _-_, _*_}
 use lib.Dec.{eqb, leb, ltb}
 use lib.ListN.{length, drop}
+use Rattle.intervals.specs.Interval.{elem}
 use Rattle.token.specs.Token.{Token, token, typeNumber}
 use Rattle.token.specs.declared.TokenType.the-variants.{Sharp, Flat, Aug, Dim, HalfDim, Extension, Hyphen, Maj7, Slash, LParent, RParent, Comma, Illegal, Eof}
 use Rattle.utf8.specs.Utf8.{charOf}
@@ -26,10 +27,6 @@ digitOf c = cond (leb 48 c && leb c 57) (c - 48) 10
 
 unfoldable pub isDigit : ℕ → Bool
 isDigit c = ltb (digitOf c) 10
-
-unfoldable pub elem : ℕ → List ℕ → Bool
-elem x [] = false
-elem x (y ∷ ys) = eqb x y || elem x ys
 
 -- The signs of `scan_token`, by character: # ♯, ♭, △ ^ Δ, -, °, ø, /, +, comma, ( and ), one line each in this order; 0 for a character
 -- that has no token of its own.

@@ -7,10 +7,10 @@ ghost use Rattle.io.specs.Counts.{Counts};
 use chord::Chord;
 use intervals::IntervalList;
 use intervals::IntervalSet;
+use lines::Input;
 use note::Note;
 use note::OptionalNote;
 use note::RootModifier;
-use lines::Input;
 use reader::Answer;
 use reader::Reading;
 

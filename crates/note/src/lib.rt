@@ -4,6 +4,7 @@ ghost use Prim.Native.Nat.{_<_};
 ghost use Rattle.note.specs.Note.{memberClass};
 ghost use Rattle.note.specs.Note.{letterNumber, letterOf, alterationOf, modifierNumber, modifierOf, noteNumber, noteOf, pitchClass};
 use intervals::st;
+
 mod pitch;
 
 use pitch::letter_class;

@@ -5,10 +5,10 @@
 ghost use Prim.Native.Nat.{_*_, _≤_};
 ghost use lib.ListN.{length};
 ghost use Rattle.io.specs.Counts.{Counts};
+use lines::Input;
 use note::Note;
 use note::OptionalNote;
 use note::RootModifier;
-use lines::Input;
 
 // Appends a number, right-justified in four columns.
 fn put_number(out: &mut [u8], used: usize, n: u64) -> usize {

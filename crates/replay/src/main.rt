@@ -10,10 +10,10 @@ ghost use Rattle.io.specs.Counts.{Counts};
 use chord::Chord;
 use intervals::IntervalList;
 use intervals::IntervalSet;
+use lines::Input;
 use note::Note;
 use note::OptionalNote;
 use note::RootModifier;
-use lines::Input;
 use reader::Answer;
 
 // The first number of the pattern that lent lists are filled with; no error has a number as large.

@@ -11,7 +11,7 @@ use lib.ListN.{drop, getD, length, length-append}
 use Rattle.lookahead.specs.Next.{isEnd, isMaj7, isNumber, isSign, noteFrom, numberIn, signIn}
 use Rattle.lookahead.specs.declared.Ahead.{Ahead}
 use Rattle.lookahead.specs.declared.Next.{Next}
-use Rattle.intervals.specs.Interval.{Set, empty, semitones}
+use Rattle.intervals.specs.Interval.{elem, Set, empty, semitones}
 use Rattle.note.specs.declared.OptionalNote.the-variants as optional
 use Rattle.note.specs.declared.OptionalNote.{OptionalNote}
 use Rattle.note.specs.declared.RootModifier.the-variants.{Natural, Sharp, Flat}
@@ -36,7 +36,7 @@ use Rattle.token.specs.declared.Bracket.the-variants.{Opens, Closes, Ends, Othe
 use Rattle.token.specs.declared.Bracket.{Bracket}
 use Rattle.token.specs.declared.TokenType.the-variants as type
 use Rattle.token.specs.declared.TokenType.{TokenType}
-use Rattle.validator.specs.Validator.{only, orElse, firstFrom, allFrom, wrongOf, firstWrong, timesOf, repeatedAt, repeated, expressionErrors, among, addTargets, omitTargets, badExtensions, faultOf, seeing, extensionFault, reported, others, conflictAt, extensionErrors, lastBelow, neighboursAt, present, three, semitoneErrors, validationOf}
+use Rattle.validator.specs.Validator.{only, orElse, firstFrom, allFrom, wrongOf, firstWrong, timesOf, repeatedAt, repeated, expressionErrors, addTargets, omitTargets, badExtensions, faultOf, seeing, extensionFault, reported, others, conflictAt, extensionErrors, lastBelow, neighboursAt, present, three, semitoneErrors, validationOf}
 use Rattle.parser.proofs.Laws.{errors-most}
 
 -- 1 to 17 but for 13
@@ -223,8 +223,8 @@ wrong-errors exp.Alt = nil-errors 1
 wrong-errors exp.Aug = nil-errors 1
 wrong-errors (exp.Sus x) = nil-errors 1
 wrong-errors (exp.Extension x p) = nil-errors 1
-wrong-errors (exp.Add x p) = only-errors (not (among addTargets x)) (WrongExpressionTarget p) tt
-wrong-errors (exp.Omit x p) = only-errors (not (among omitTargets x)) (WrongExpressionTarget p) tt
+wrong-errors (exp.Add x p) = only-errors (not (elem x addTargets)) (WrongExpressionTarget p) tt
+wrong-errors (exp.Omit x p) = only-errors (not (elem x omitTargets)) (WrongExpressionTarget p) tt
 wrong-errors (exp.SlashBass n) = nil-errors 1
 
 first-wrong-errors : (l : List Exp) → Errors 1 (firstWrong l)
@@ -249,7 +249,7 @@ fault-errors seen exp.Dim7 = nil-errors 1
 fault-errors seen exp.Alt = nil-errors 1
 fault-errors seen exp.Aug = nil-errors 1
 fault-errors seen (exp.Sus x) = nil-errors 1
-fault-errors seen (exp.Extension x p) = fault-at-errors (among badExtensions x) seen x p
+fault-errors seen (exp.Extension x p) = fault-at-errors (elem x badExtensions) seen x p
 fault-errors seen (exp.Add x p) = nil-errors 1
 fault-errors seen (exp.Omit x p) = nil-errors 1
 fault-errors seen (exp.SlashBass n) = nil-errors 1

@@ -5,8 +5,9 @@ use mathlib.Core.List.{List, [], _∷_, _++_}
 use mathlib.Core.Path.{_≡_, refl, sym, ap, _∙_}
 use Prim.Native.Nat.{ℕ}
 use borrow.Author.Tests.{ne-eqb}
+use Rattle.intervals.specs.Interval.{elem}
 use Rattle.validator.specs.State.{isSome, errorOf}
-use Rattle.validator.specs.Validator.{among, isNil, orElse}
+use Rattle.validator.specs.Validator.{isNil, orElse}
 use Rattle.validator.specs.declared.fault.Fault.the-variants as fault
 use Rattle.validator.specs.declared.fault.Fault.{Fault}
 
@@ -34,11 +35,11 @@ abbrev pub Away : ℕ → Type 0 → List ℕ → Type 0
 Away n P [] = P
 Away n P (k ∷ ks) = Away n (P × (n ≡ k → ⊥)) ks
 
-away : (n : ℕ) (P : Type 0) (ks : List ℕ) → Away n P ks → P × (among ks n ≡ false)
+away : (n : ℕ) (P : Type 0) (ks : List ℕ) → Away n P ks → P × (elem n ks ≡ false)
 away n P [] a = (a, refl)
 away n P (k ∷ ks) a =
     let q = away n (P × (n ≡ k → ⊥)) ks a in
-    (q .0 .0, ap (λ (t : Bool). t || among ks n) (ne-eqb k n (λ e. q .0 .1 (sym e))) ∙ q .1)
+    (q .0 .0, ap (λ (t : Bool). t || elem n ks) (ne-eqb n k (q .0 .1)) ∙ q .1)
 
-pub not-among : (n : ℕ) (ks : List ℕ) → Away n Unit ks → false ≡ among ks n
-not-among n ks a = sym (away n Unit ks a .1)
+pub not-elem : (n : ℕ) (ks : List ℕ) → Away n Unit ks → false ≡ elem n ks
+not-elem n ks a = sym (away n Unit ks a .1)

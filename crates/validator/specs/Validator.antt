@@ -4,18 +4,13 @@ use mathlib.Core.List.{List, [], _∷_, _++_}
 use Prim.Native.Nat.{ℕ, zero, suc, _+_, _%_}
 use lib.Dec.{eqb, ltb}
 use lib.ListN.{getD}
-use Rattle.intervals.specs.Interval.{Set, empty, insert, semitones, minorSecond, majorSecond, minorThird, majorThird, perfectFourth, diminishedFifth, perfectFifth, augmentedFifth, minorSixth, majorSixth, diminishedSeventh, majorSeventh, flatNinth, ninth, sharpNinth, eleventh, sharpEleventh, flatThirteenth, thirteenth}
+use Rattle.intervals.specs.Interval.{elem, Set, empty, insert, semitones, minorSecond, majorSecond, minorThird, majorThird, perfectFourth, diminishedFifth, perfectFifth, augmentedFifth, minorSixth, majorSixth, diminishedSeventh, majorSeventh, flatNinth, ninth, sharpNinth, eleventh, sharpEleventh, flatThirteenth, thirteenth}
 use Rattle.expression.specs.Expression.{onAdd, onExtension, onOmit}
 use Rattle.expression.specs.ParserError.{numbersOf}
 use Rattle.expression.specs.declared.expression.Exp.the-variants.{Power, Bass, Maj, Maj7, Minor, HalfDim, Dim, Dim7, Alt, Aug, Sus, Extension, Add, Omit, SlashBass}
 use Rattle.expression.specs.declared.expression.Exp.{Exp}
 use Rattle.expression.specs.declared.parser_error.ParserError.the-variants.{DuplicateModifier, InconsistentExtension, DuplicateExtension, InvalidExtension, WrongExpressionTarget, ThreeConsecutiveSemitones}
 use Rattle.expression.specs.declared.parser_error.ParserError.{ParserError}
-
--- is the number in the list?
-abbrev pub among : List ℕ → ℕ → Bool
-among [] n = false
-among (k ∷ ks) n = eqb k n || among ks n
 
 -- the error, if b
 abbrev pub only : Bool → ParserError → List ℕ
@@ -47,8 +42,8 @@ omitTargets = majorThird ∷ perfectFifth ∷ []
 -- `validate` of an expression
 abbrev pub wrongOf : Exp → List ℕ
 wrongOf e =
-    onAdd (onOmit [] (λ x p. only (not (among omitTargets x)) (WrongExpressionTarget p)) e)
-    (λ x p. only (not (among addTargets x)) (WrongExpressionTarget p)) e
+    onAdd (onOmit [] (λ x p. only (not (elem x omitTargets)) (WrongExpressionTarget p)) e)
+    (λ x p. only (not (elem x addTargets)) (WrongExpressionTarget p)) e
 
 -- `validate_expressions`: the first wrong target
 unfoldable pub firstWrong : List Exp → List ℕ
@@ -93,7 +88,7 @@ abbrev pub badExtensions : List ℕ
 badExtensions = minorSecond ∷ majorSecond ∷ minorThird ∷ majorThird ∷ diminishedSeventh ∷ majorSeventh ∷ []
 
 abbrev pub faultAt : Set → ℕ → ℕ → List ℕ
-faultAt seen x p = cond (among badExtensions x) (numbersOf (InvalidExtension p)) (only (seen (semitones x)) (DuplicateExtension p))
+faultAt seen x p = cond (elem x badExtensions) (numbersOf (InvalidExtension p)) (only (seen (semitones x)) (DuplicateExtension p))
 
 abbrev pub faultOf : Set → Exp → List ℕ
 faultOf seen e = onExtension [] (faultAt seen) e

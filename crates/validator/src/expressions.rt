@@ -5,9 +5,10 @@ ghost use mathlib.Core.Bool.{cond};
 ghost use Prim.Native.Nat.{ℕ, _+_, _*_, _≤_, _<_};
 ghost use lib.Dec.{eqb};
 ghost use lib.ListN.{length};
+ghost use Rattle.intervals.specs.Interval.{elem};
 ghost use Rattle.expression.specs.Expression.{expOf};
 ghost use Rattle.validator.specs.State.{errorOf, countsOf, Wrote};
-ghost use Rattle.validator.specs.Validator.{among, addTargets, omitTargets, wrongOf, firstWrong, priorityOf, timesOf, repeatedAt, repeated, expressionErrors};
+ghost use Rattle.validator.specs.Validator.{addTargets, omitTargets, wrongOf, firstWrong, priorityOf, timesOf, repeatedAt, repeated, expressionErrors};
 use crate::fault::Fault;
 use crate::fault::fault_if;
 use crate::fault::push;
@@ -16,7 +17,7 @@ use expression::parser_error::ParserError;
 
 // Is the interval one that Add may name?
 fn is_add_target(interval: u8) -> bool
-    ensures { λ r. ⌜ r ≡ among addTargets interval ⌝ }
+    ensures { λ r. ⌜ r ≡ elem interval addTargets ⌝ }
 {
     match interval {
         2 => true,
@@ -37,7 +38,7 @@ fn is_add_target(interval: u8) -> bool
 }
 
 fn is_omit_target(interval: u8) -> bool
-    ensures { λ r. ⌜ r ≡ among omitTargets interval ⌝ }
+    ensures { λ r. ⌜ r ≡ elem interval omitTargets ⌝ }
 {
     match interval {
         4 => true,

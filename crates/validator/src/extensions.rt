@@ -5,21 +5,21 @@ ghost use mathlib.Core.Path.{_≡_};
 ghost use Prim.Native.Nat.{_+_, _*_, _≤_, _<_};
 ghost use lib.ListN.{length};
 ghost use Rattle.intervals.specs.Stored.{members};
-ghost use Rattle.intervals.specs.Interval.{empty, semitones};
+ghost use Rattle.intervals.specs.Interval.{elem, empty, semitones};
 ghost use Rattle.expression.specs.Expression.{expOf};
 ghost use Rattle.validator.specs.State.{errorOf, Wrote};
-ghost use Rattle.validator.specs.Validator.{among, allFrom, badExtensions, faultAt, faultOf, seeing, extensionFault, conflictAt, extensionErrors, isNil};
+ghost use Rattle.validator.specs.Validator.{allFrom, badExtensions, faultAt, faultOf, seeing, extensionFault, conflictAt, extensionErrors, isNil};
 use crate::fault::Fault;
 use crate::fault::fault_if;
 use crate::fault::push;
 use crate::fault::wide;
-use intervals::IntervalSet;
-use intervals::st;
 use expression::expression::Exp;
 use expression::parser_error::ParserError;
+use intervals::IntervalSet;
+use intervals::st;
 
 fn is_bad_extension(interval: u8) -> bool
-    ensures { λ r. ⌜ r ≡ among badExtensions interval ⌝ }
+    ensures { λ r. ⌜ r ≡ elem interval badExtensions ⌝ }
 {
     match interval {
         1 => true,

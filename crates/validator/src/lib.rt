@@ -7,10 +7,10 @@ ghost use Rattle.intervals.specs.Stored.{members};
 ghost use Rattle.expression.specs.Expression.{expOf};
 ghost use Rattle.validator.specs.State.{Wrote};
 ghost use Rattle.validator.specs.Validator.{setValid, validationOf};
-use intervals::IntervalSet;
 use expressions::validate_expressions;
 use extensions::has_conflict;
 use extensions::validate_extensions;
+use intervals::IntervalSet;
 use semitones::has_neighbours;
 use semitones::validate_semitones;
 

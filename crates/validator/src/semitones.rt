@@ -13,9 +13,9 @@ use crate::fault::Fault;
 use crate::fault::fault_if;
 use crate::fault::push;
 use crate::fault::wide;
+use expression::parser_error::ParserError;
 use intervals::IntervalSet;
 use intervals::st;
-use expression::parser_error::ParserError;
 
 // The last interval of each class; 23 where there is none.
 pub struct Lasts {

@@ -9,9 +9,9 @@ ghost use Rattle.house_text.specs.Spelling.{house};
 ghost use Rattle.writer.specs.State.{Put, Written};
 ghost use Rattle.writer.specs.Writer.{HasText};
 use chord::Chord;
-use note::OptionalNote;
 use house_parts::kind::kind_in;
 use house_parts::question::is_realizable;
+use note::OptionalNote;
 use spelling::put_spelling;
 
 mod spelling;

@@ -6,13 +6,13 @@ ghost use lib.ListN.{length, getD};
 ghost use Rattle.house_text.specs.Spelling.{letterText, noteText, spell};
 ghost use Rattle.intervals.specs.Stored.{members};
 ghost use Rattle.writer.specs.State.{Put, Tables, textAt, partText, written23, bassText};
+use house_parts::kind::SusKind;
+use house_parts::parts::is_named;
 use intervals::IntervalSet;
 use note::Note;
 use note::NoteLiteral;
 use note::OptionalNote;
 use note::RootModifier;
-use house_parts::kind::SusKind;
-use house_parts::parts::is_named;
 
 // The texts of the parts but for the bass, as rows of eight bytes, and their lengths.
 pub const TEXTS: [[u8; 8]; 23] = [

@@ -2,40 +2,33 @@
 -- Assumes nothing.
 use mathlib.Core.Path.{sym, ap}
 use borrow.Author.Tests.{ne-eqb}
-use Rattle.lexer.specs.Lexer.{oneDigit, elem}
+use Rattle.intervals.specs.Interval.{elem}
+use Rattle.lexer.specs.Lexer.{oneDigit}
 use Rattle.lexer.proofs.is_one.Statement.{statement}
 use Rattle.lexer.proofs.is_one.Tie as tie
 
 returns : tie.Need-returns
-unfolding elem
 returns c = sym (ap (λ d. elem d oneDigit) (c .match .keys1))
 
 returns-2 : tie.Need-returns-2
-unfolding elem
 returns-2 c = sym (ap (λ d. elem d oneDigit) (c .match .keys2))
 
 returns-3 : tie.Need-returns-3
-unfolding elem
 returns-3 c = sym (ap (λ d. elem d oneDigit) (c .match .keys3))
 
 returns-4 : tie.Need-returns-4
-unfolding elem
 returns-4 c = sym (ap (λ d. elem d oneDigit) (c .match .keys4))
 
 returns-5 : tie.Need-returns-5
-unfolding elem
 returns-5 c = sym (ap (λ d. elem d oneDigit) (c .match .keys5))
 
 returns-6 : tie.Need-returns-6
-unfolding elem
 returns-6 c = sym (ap (λ d. elem d oneDigit) (c .match .keys6))
 
 returns-7 : tie.Need-returns-7
-unfolding elem
 returns-7 c = sym (ap (λ d. elem d oneDigit) (c .match .keys7))
 
 returns-8 : tie.Need-returns-8
-unfolding elem
 returns-8 c = simp (ne-eqb _ _ (c .match .rest .1), ne-eqb _ _ (c .match .rest .0 .1), ne-eqb _ _ (c .match .rest .0 .0 .1), ne-eqb _ _ (c .match .rest .0 .0 .0 .1), ne-eqb _ _ (c .match .rest .0 .0 .0 .0 .1), ne-eqb _ _ (c .match .rest .0 .0 .0 .0 .0 .1), ne-eqb _ _ (c .match .rest .0 .0 .0 .0 .0 .0 .1))
 
 pub is-one-spec : {M : Type 1} → statement M

@@ -2,20 +2,18 @@
 -- Assumes nothing.
 use mathlib.Core.Path.{sym, ap}
 use borrow.Author.Tests.{ne-eqb}
-use Rattle.lexer.specs.Lexer.{twoDigits, elem}
+use Rattle.intervals.specs.Interval.{elem}
+use Rattle.lexer.specs.Lexer.{twoDigits}
 use Rattle.lexer.proofs.is_two.Statement.{statement}
 use Rattle.lexer.proofs.is_two.Tie as tie
 
 returns : tie.Need-returns
-unfolding elem
 returns c = sym (ap (λ d. elem d twoDigits) (c .match .keys1))
 
 returns-2 : tie.Need-returns-2
-unfolding elem
 returns-2 c = sym (ap (λ d. elem d twoDigits) (c .match .keys2))
 
 returns-3 : tie.Need-returns-3
-unfolding elem
 returns-3 c = simp (ne-eqb _ _ (c .match .rest .1), ne-eqb _ _ (c .match .rest .0 .1))
 
 pub is-two-spec : {M : Type 1} → statement M
