@@ -9,8 +9,8 @@ use mathlib.Core.Path.{_≡_, refl, sym, ap, _∙_}
 use Prim.Native.Nat.{ℕ, _+_}
 use lib.Dec.{eqb}
 use lib.IntN.{pos}
-use lib.ListN.{length}
-use Rattle.lookahead.specs.Next.{isSign}
+use lib.ListN.{getD, length}
+use Rattle.lookahead.specs.Next.{isSign, signIn}
 use Rattle.intervals.specs.Interval.{Set, minorThird, diminishedSeventh}
 use Rattle.note.specs.declared.Note.{Note}
 use Rattle.note.specs.declared.NoteLiteral.the-variants.{C, D, E, F, G, A, B}
@@ -135,15 +135,19 @@ headEnd a f = after (formText f) (after (signText a) 1)
 abbrev headToks : NoteLiteral → RootModifier → Form → List Token
 headToks l a f = fold7 dim dim7 (toks 0 (headText l a f))
 
--- letter by letter
-each-letter : (X : NoteLiteral → Type 0) → X C → X D → X E → X F → X G → X A → X B → (l : NoteLiteral) → X l
-each-letter X c d e f g a b C = c
-each-letter X c d e f g a b D = d
-each-letter X c d e f g a b E = e
-each-letter X c d e f g a b F = f
-each-letter X c d e f g a b G = g
-each-letter X c d e f g a b A = a
-each-letter X c d e f g a b B = b
+-- what the seven letters give, so that one `refl` compares all seven
+abbrev row : {X : Type 0} → (NoteLiteral → X) → List X
+row u = u C ∷ u D ∷ u E ∷ u F ∷ u G ∷ u A ∷ u B ∷ []
+
+-- letter by letter: two that give the same row are the same at each letter
+by-letter : {X : Type 0} (u v : NoteLiteral → X) → row u ≡ row v → (l : NoteLiteral) → u l ≡ v l
+by-letter {X} u v e C = ap (λ (r : List X). getD r 0 (u C)) e
+by-letter {X} u v e D = ap (λ (r : List X). getD r 1 (u C)) e
+by-letter {X} u v e E = ap (λ (r : List X). getD r 2 (u C)) e
+by-letter {X} u v e F = ap (λ (r : List X). getD r 3 (u C)) e
+by-letter {X} u v e G = ap (λ (r : List X). getD r 4 (u C)) e
+by-letter {X} u v e A = ap (λ (r : List X). getD r 5 (u C)) e
+by-letter {X} u v e B = ap (λ (r : List X). getD r 6 (u C)) e
 
 -- what is asked of a head
 record Head (a : RootModifier) (f : Form) (l : NoteLiteral) : Type 0 where
@@ -158,166 +162,62 @@ record Head (a : RootModifier) (f : Form) (l : NoteLiteral) : Type 0 where
 unmarked : (z : List Token) → isSign (nextAt z 0) ≡ false → walk [] (record { skip = cond (isSign (nextAt z 0)) 1 0; count = pos 0; context = context.None; errs = []; exps = [] }) z ≡ walk [] (found []) z
 unmarked z h = ap (λ (b : Bool). walk [] (record { skip = cond b 1 0; count = pos 0; context = context.None; errs = []; exps = [] }) z) h
 
+-- a head is as asked with each letter, if the rows of what is asked are equal
+heads : (a : RootModifier) (f : Form) → row (λ l. after (headText l a f) 0) ≡ row (λ l. headEnd a f)
+    → row (λ l. plainEnd (lex 0 [] 0 (headText l a f))) ≡ row (λ l. true)
+    → row (λ l. count dim (headToks l a f)) ≡ row (λ l. 0)
+    → row (λ l. count maj (headToks l a f)) ≡ row (λ l. 0)
+    → ((z : List Token) → Unsigned z → row (λ l. rootOf (headToks l a f ++ z)) ≡ row (λ l. Some (record { literal = l; modifier = a })))
+    → ((z : List Token) → Unsigned z → row (λ l. parseOf (headToks l a f ++ z)) ≡ row (λ l. walk [] (found (formExps f)) z))
+    → (l : NoteLiteral)
+    → Head a f l
+heads a f g e d m r p l = record {
+  goes = by-letter (λ l. after (headText l a f) 0) (λ l. headEnd a f) g l;
+  ends = by-letter (λ l. plainEnd (lex 0 [] 0 (headText l a f))) (λ l. true) e l;
+  no-dim = by-letter (λ l. count dim (headToks l a f)) (λ l. 0) d l;
+  no-maj = by-letter (λ l. count maj (headToks l a f)) (λ l. 0) m l;
+  rooted = λ z h. by-letter (λ l. rootOf (headToks l a f ++ z)) (λ l. Some (record { literal = l; modifier = a })) (r z h) l;
+  parses = λ z h. by-letter (λ l. parseOf (headToks l a f ++ z)) (λ l. walk [] (found (formExps f)) z) (p z h) l;
+}
+
 -- each head is as asked; where the letter is the last of it, what follows is no sign
 head : (a : RootModifier) (f : Form) (l : NoteLiteral) → Head a f l
 unfolding headOf isDigit isLetter lex signOf longestOf words concat count foldOn isMaj join lastSix walk typeOf bits charOf encode isScalar
 head Natural plain =
-    each-letter (Head Natural plain)
-    (record { goes = refl; ends = refl; no-dim = refl; no-maj = refl; rooted = λ z h. ap (λ (m : RootModifier). Some (record { literal = C; modifier = m })) (h .1); parses = λ z h. unmarked z (h .0) })
-    (record { goes = refl; ends = refl; no-dim = refl; no-maj = refl; rooted = λ z h. ap (λ (m : RootModifier). Some (record { literal = D; modifier = m })) (h .1); parses = λ z h. unmarked z (h .0) })
-    (record { goes = refl; ends = refl; no-dim = refl; no-maj = refl; rooted = λ z h. ap (λ (m : RootModifier). Some (record { literal = E; modifier = m })) (h .1); parses = λ z h. unmarked z (h .0) })
-    (record { goes = refl; ends = refl; no-dim = refl; no-maj = refl; rooted = λ z h. ap (λ (m : RootModifier). Some (record { literal = F; modifier = m })) (h .1); parses = λ z h. unmarked z (h .0) })
-    (record { goes = refl; ends = refl; no-dim = refl; no-maj = refl; rooted = λ z h. ap (λ (m : RootModifier). Some (record { literal = G; modifier = m })) (h .1); parses = λ z h. unmarked z (h .0) })
-    (record { goes = refl; ends = refl; no-dim = refl; no-maj = refl; rooted = λ z h. ap (λ (m : RootModifier). Some (record { literal = A; modifier = m })) (h .1); parses = λ z h. unmarked z (h .0) })
-    (record { goes = refl; ends = refl; no-dim = refl; no-maj = refl; rooted = λ z h. ap (λ (m : RootModifier). Some (record { literal = B; modifier = m })) (h .1); parses = λ z h. unmarked z (h .0) })
-head Natural minor =
-    each-letter (Head Natural minor)
-    (record { goes = refl; ends = refl; no-dim = refl; no-maj = refl; rooted = λ z h. refl; parses = λ z h. refl })
-    (record { goes = refl; ends = refl; no-dim = refl; no-maj = refl; rooted = λ z h. refl; parses = λ z h. refl })
-    (record { goes = refl; ends = refl; no-dim = refl; no-maj = refl; rooted = λ z h. refl; parses = λ z h. refl })
-    (record { goes = refl; ends = refl; no-dim = refl; no-maj = refl; rooted = λ z h. refl; parses = λ z h. refl })
-    (record { goes = refl; ends = refl; no-dim = refl; no-maj = refl; rooted = λ z h. refl; parses = λ z h. refl })
-    (record { goes = refl; ends = refl; no-dim = refl; no-maj = refl; rooted = λ z h. refl; parses = λ z h. refl })
-    (record { goes = refl; ends = refl; no-dim = refl; no-maj = refl; rooted = λ z h. refl; parses = λ z h. refl })
-head Natural diminished =
-    each-letter (Head Natural diminished)
-    (record { goes = refl; ends = refl; no-dim = refl; no-maj = refl; rooted = λ z h. refl; parses = λ z h. refl })
-    (record { goes = refl; ends = refl; no-dim = refl; no-maj = refl; rooted = λ z h. refl; parses = λ z h. refl })
-    (record { goes = refl; ends = refl; no-dim = refl; no-maj = refl; rooted = λ z h. refl; parses = λ z h. refl })
-    (record { goes = refl; ends = refl; no-dim = refl; no-maj = refl; rooted = λ z h. refl; parses = λ z h. refl })
-    (record { goes = refl; ends = refl; no-dim = refl; no-maj = refl; rooted = λ z h. refl; parses = λ z h. refl })
-    (record { goes = refl; ends = refl; no-dim = refl; no-maj = refl; rooted = λ z h. refl; parses = λ z h. refl })
-    (record { goes = refl; ends = refl; no-dim = refl; no-maj = refl; rooted = λ z h. refl; parses = λ z h. refl })
-head Sharp plain =
-    each-letter (Head Sharp plain)
-    (record { goes = refl; ends = refl; no-dim = refl; no-maj = refl; rooted = λ z h. refl; parses = λ z h. refl })
-    (record { goes = refl; ends = refl; no-dim = refl; no-maj = refl; rooted = λ z h. refl; parses = λ z h. refl })
-    (record { goes = refl; ends = refl; no-dim = refl; no-maj = refl; rooted = λ z h. refl; parses = λ z h. refl })
-    (record { goes = refl; ends = refl; no-dim = refl; no-maj = refl; rooted = λ z h. refl; parses = λ z h. refl })
-    (record { goes = refl; ends = refl; no-dim = refl; no-maj = refl; rooted = λ z h. refl; parses = λ z h. refl })
-    (record { goes = refl; ends = refl; no-dim = refl; no-maj = refl; rooted = λ z h. refl; parses = λ z h. refl })
-    (record { goes = refl; ends = refl; no-dim = refl; no-maj = refl; rooted = λ z h. refl; parses = λ z h. refl })
-head Sharp minor =
-    each-letter (Head Sharp minor)
-    (record { goes = refl; ends = refl; no-dim = refl; no-maj = refl; rooted = λ z h. refl; parses = λ z h. refl })
-    (record { goes = refl; ends = refl; no-dim = refl; no-maj = refl; rooted = λ z h. refl; parses = λ z h. refl })
-    (record { goes = refl; ends = refl; no-dim = refl; no-maj = refl; rooted = λ z h. refl; parses = λ z h. refl })
-    (record { goes = refl; ends = refl; no-dim = refl; no-maj = refl; rooted = λ z h. refl; parses = λ z h. refl })
-    (record { goes = refl; ends = refl; no-dim = refl; no-maj = refl; rooted = λ z h. refl; parses = λ z h. refl })
-    (record { goes = refl; ends = refl; no-dim = refl; no-maj = refl; rooted = λ z h. refl; parses = λ z h. refl })
-    (record { goes = refl; ends = refl; no-dim = refl; no-maj = refl; rooted = λ z h. refl; parses = λ z h. refl })
-head Sharp diminished =
-    each-letter (Head Sharp diminished)
-    (record { goes = refl; ends = refl; no-dim = refl; no-maj = refl; rooted = λ z h. refl; parses = λ z h. refl })
-    (record { goes = refl; ends = refl; no-dim = refl; no-maj = refl; rooted = λ z h. refl; parses = λ z h. refl })
-    (record { goes = refl; ends = refl; no-dim = refl; no-maj = refl; rooted = λ z h. refl; parses = λ z h. refl })
-    (record { goes = refl; ends = refl; no-dim = refl; no-maj = refl; rooted = λ z h. refl; parses = λ z h. refl })
-    (record { goes = refl; ends = refl; no-dim = refl; no-maj = refl; rooted = λ z h. refl; parses = λ z h. refl })
-    (record { goes = refl; ends = refl; no-dim = refl; no-maj = refl; rooted = λ z h. refl; parses = λ z h. refl })
-    (record { goes = refl; ends = refl; no-dim = refl; no-maj = refl; rooted = λ z h. refl; parses = λ z h. refl })
-head Flat plain =
-    each-letter (Head Flat plain)
-    (record { goes = refl; ends = refl; no-dim = refl; no-maj = refl; rooted = λ z h. refl; parses = λ z h. refl })
-    (record { goes = refl; ends = refl; no-dim = refl; no-maj = refl; rooted = λ z h. refl; parses = λ z h. refl })
-    (record { goes = refl; ends = refl; no-dim = refl; no-maj = refl; rooted = λ z h. refl; parses = λ z h. refl })
-    (record { goes = refl; ends = refl; no-dim = refl; no-maj = refl; rooted = λ z h. refl; parses = λ z h. refl })
-    (record { goes = refl; ends = refl; no-dim = refl; no-maj = refl; rooted = λ z h. refl; parses = λ z h. refl })
-    (record { goes = refl; ends = refl; no-dim = refl; no-maj = refl; rooted = λ z h. refl; parses = λ z h. refl })
-    (record { goes = refl; ends = refl; no-dim = refl; no-maj = refl; rooted = λ z h. refl; parses = λ z h. refl })
-head Flat minor =
-    each-letter (Head Flat minor)
-    (record { goes = refl; ends = refl; no-dim = refl; no-maj = refl; rooted = λ z h. refl; parses = λ z h. refl })
-    (record { goes = refl; ends = refl; no-dim = refl; no-maj = refl; rooted = λ z h. refl; parses = λ z h. refl })
-    (record { goes = refl; ends = refl; no-dim = refl; no-maj = refl; rooted = λ z h. refl; parses = λ z h. refl })
-    (record { goes = refl; ends = refl; no-dim = refl; no-maj = refl; rooted = λ z h. refl; parses = λ z h. refl })
-    (record { goes = refl; ends = refl; no-dim = refl; no-maj = refl; rooted = λ z h. refl; parses = λ z h. refl })
-    (record { goes = refl; ends = refl; no-dim = refl; no-maj = refl; rooted = λ z h. refl; parses = λ z h. refl })
-    (record { goes = refl; ends = refl; no-dim = refl; no-maj = refl; rooted = λ z h. refl; parses = λ z h. refl })
-head Flat diminished =
-    each-letter (Head Flat diminished)
-    (record { goes = refl; ends = refl; no-dim = refl; no-maj = refl; rooted = λ z h. refl; parses = λ z h. refl })
-    (record { goes = refl; ends = refl; no-dim = refl; no-maj = refl; rooted = λ z h. refl; parses = λ z h. refl })
-    (record { goes = refl; ends = refl; no-dim = refl; no-maj = refl; rooted = λ z h. refl; parses = λ z h. refl })
-    (record { goes = refl; ends = refl; no-dim = refl; no-maj = refl; rooted = λ z h. refl; parses = λ z h. refl })
-    (record { goes = refl; ends = refl; no-dim = refl; no-maj = refl; rooted = λ z h. refl; parses = λ z h. refl })
-    (record { goes = refl; ends = refl; no-dim = refl; no-maj = refl; rooted = λ z h. refl; parses = λ z h. refl })
-    (record { goes = refl; ends = refl; no-dim = refl; no-maj = refl; rooted = λ z h. refl; parses = λ z h. refl })
+    heads Natural plain refl refl refl refl
+    (λ z h. ap (λ (m : RootModifier). row (λ l. Some (record { literal = l; modifier = m }))) (h .1))
+    (λ z h. ap (λ (s : Parsing). row (λ l. s)) (unmarked z (h .0)))
+head Natural minor = heads Natural minor refl refl refl refl (λ z h. refl) (λ z h. refl)
+head Natural diminished = heads Natural diminished refl refl refl refl (λ z h. refl) (λ z h. refl)
+head Sharp plain = heads Sharp plain refl refl refl refl (λ z h. refl) (λ z h. refl)
+head Sharp minor = heads Sharp minor refl refl refl refl (λ z h. refl) (λ z h. refl)
+head Sharp diminished = heads Sharp diminished refl refl refl refl (λ z h. refl) (λ z h. refl)
+head Flat plain = heads Flat plain refl refl refl refl (λ z h. refl) (λ z h. refl)
+head Flat minor = heads Flat minor refl refl refl refl (λ z h. refl) (λ z h. refl)
+head Flat diminished = heads Flat diminished refl refl refl refl (λ z h. refl) (λ z h. refl)
+
+-- the heads of the seven letters are cut each by itself, before r
+abbrev Aparts : RootModifier → Form → List ℕ → Type 0
+Aparts a f r = row (λ l. lex 0 [] 0 (headText l a f ++ r)) ≡ row (λ l. lex 0 [] 0 (headText l a f) ++ lex 0 [] (after (headText l a f) 0) r)
+
+-- and so they are before any border
+heads-apart : (a : RootModifier) (f : Form) (r : List ℕ) → Border r → Aparts a f r
+unfolding headOf isDigit isLetter lex signOf longestOf words concat count foldOn isMaj join lastSix walk typeOf bits charOf encode isScalar
+heads-apart Natural plain = by-border (Aparts Natural plain) refl (λ r. refl) (λ r. refl)
+heads-apart Natural minor = by-border (Aparts Natural minor) refl (λ r. refl) (λ r. refl)
+heads-apart Natural diminished = by-border (Aparts Natural diminished) refl (λ r. refl) (λ r. refl)
+heads-apart Sharp plain = by-border (Aparts Sharp plain) refl (λ r. refl) (λ r. refl)
+heads-apart Sharp minor = by-border (Aparts Sharp minor) refl (λ r. refl) (λ r. refl)
+heads-apart Sharp diminished = by-border (Aparts Sharp diminished) refl (λ r. refl) (λ r. refl)
+heads-apart Flat plain = by-border (Aparts Flat plain) refl (λ r. refl) (λ r. refl)
+heads-apart Flat minor = by-border (Aparts Flat minor) refl (λ r. refl) (λ r. refl)
+heads-apart Flat diminished = by-border (Aparts Flat diminished) refl (λ r. refl) (λ r. refl)
 
 -- a head is cut by itself
 head-apart : (a : RootModifier) (f : Form) (l : NoteLiteral) (r : List ℕ) → Border r → Apart 0 (headText l a f) r
-unfolding headOf isDigit isLetter lex signOf longestOf words concat count foldOn isMaj join lastSix walk typeOf bits charOf encode isScalar
-head-apart Natural plain = each-letter (λ (l : NoteLiteral). (r : List ℕ) → Border r → Apart 0 (headText l Natural plain) r)
-    (by-border (Apart 0 (headText C Natural plain)) refl (λ r. refl) (λ r. refl))
-    (by-border (Apart 0 (headText D Natural plain)) refl (λ r. refl) (λ r. refl))
-    (by-border (Apart 0 (headText E Natural plain)) refl (λ r. refl) (λ r. refl))
-    (by-border (Apart 0 (headText F Natural plain)) refl (λ r. refl) (λ r. refl))
-    (by-border (Apart 0 (headText G Natural plain)) refl (λ r. refl) (λ r. refl))
-    (by-border (Apart 0 (headText A Natural plain)) refl (λ r. refl) (λ r. refl))
-    (by-border (Apart 0 (headText B Natural plain)) refl (λ r. refl) (λ r. refl))
-head-apart Natural minor = each-letter (λ (l : NoteLiteral). (r : List ℕ) → Border r → Apart 0 (headText l Natural minor) r)
-    (by-border (Apart 0 (headText C Natural minor)) refl (λ r. refl) (λ r. refl))
-    (by-border (Apart 0 (headText D Natural minor)) refl (λ r. refl) (λ r. refl))
-    (by-border (Apart 0 (headText E Natural minor)) refl (λ r. refl) (λ r. refl))
-    (by-border (Apart 0 (headText F Natural minor)) refl (λ r. refl) (λ r. refl))
-    (by-border (Apart 0 (headText G Natural minor)) refl (λ r. refl) (λ r. refl))
-    (by-border (Apart 0 (headText A Natural minor)) refl (λ r. refl) (λ r. refl))
-    (by-border (Apart 0 (headText B Natural minor)) refl (λ r. refl) (λ r. refl))
-head-apart Natural diminished = each-letter (λ (l : NoteLiteral). (r : List ℕ) → Border r → Apart 0 (headText l Natural diminished) r)
-    (by-border (Apart 0 (headText C Natural diminished)) refl (λ r. refl) (λ r. refl))
-    (by-border (Apart 0 (headText D Natural diminished)) refl (λ r. refl) (λ r. refl))
-    (by-border (Apart 0 (headText E Natural diminished)) refl (λ r. refl) (λ r. refl))
-    (by-border (Apart 0 (headText F Natural diminished)) refl (λ r. refl) (λ r. refl))
-    (by-border (Apart 0 (headText G Natural diminished)) refl (λ r. refl) (λ r. refl))
-    (by-border (Apart 0 (headText A Natural diminished)) refl (λ r. refl) (λ r. refl))
-    (by-border (Apart 0 (headText B Natural diminished)) refl (λ r. refl) (λ r. refl))
-head-apart Sharp plain = each-letter (λ (l : NoteLiteral). (r : List ℕ) → Border r → Apart 0 (headText l Sharp plain) r)
-    (by-border (Apart 0 (headText C Sharp plain)) refl (λ r. refl) (λ r. refl))
-    (by-border (Apart 0 (headText D Sharp plain)) refl (λ r. refl) (λ r. refl))
-    (by-border (Apart 0 (headText E Sharp plain)) refl (λ r. refl) (λ r. refl))
-    (by-border (Apart 0 (headText F Sharp plain)) refl (λ r. refl) (λ r. refl))
-    (by-border (Apart 0 (headText G Sharp plain)) refl (λ r. refl) (λ r. refl))
-    (by-border (Apart 0 (headText A Sharp plain)) refl (λ r. refl) (λ r. refl))
-    (by-border (Apart 0 (headText B Sharp plain)) refl (λ r. refl) (λ r. refl))
-head-apart Sharp minor = each-letter (λ (l : NoteLiteral). (r : List ℕ) → Border r → Apart 0 (headText l Sharp minor) r)
-    (by-border (Apart 0 (headText C Sharp minor)) refl (λ r. refl) (λ r. refl))
-    (by-border (Apart 0 (headText D Sharp minor)) refl (λ r. refl) (λ r. refl))
-    (by-border (Apart 0 (headText E Sharp minor)) refl (λ r. refl) (λ r. refl))
-    (by-border (Apart 0 (headText F Sharp minor)) refl (λ r. refl) (λ r. refl))
-    (by-border (Apart 0 (headText G Sharp minor)) refl (λ r. refl) (λ r. refl))
-    (by-border (Apart 0 (headText A Sharp minor)) refl (λ r. refl) (λ r. refl))
-    (by-border (Apart 0 (headText B Sharp minor)) refl (λ r. refl) (λ r. refl))
-head-apart Sharp diminished = each-letter (λ (l : NoteLiteral). (r : List ℕ) → Border r → Apart 0 (headText l Sharp diminished) r)
-    (by-border (Apart 0 (headText C Sharp diminished)) refl (λ r. refl) (λ r. refl))
-    (by-border (Apart 0 (headText D Sharp diminished)) refl (λ r. refl) (λ r. refl))
-    (by-border (Apart 0 (headText E Sharp diminished)) refl (λ r. refl) (λ r. refl))
-    (by-border (Apart 0 (headText F Sharp diminished)) refl (λ r. refl) (λ r. refl))
-    (by-border (Apart 0 (headText G Sharp diminished)) refl (λ r. refl) (λ r. refl))
-    (by-border (Apart 0 (headText A Sharp diminished)) refl (λ r. refl) (λ r. refl))
-    (by-border (Apart 0 (headText B Sharp diminished)) refl (λ r. refl) (λ r. refl))
-head-apart Flat plain = each-letter (λ (l : NoteLiteral). (r : List ℕ) → Border r → Apart 0 (headText l Flat plain) r)
-    (by-border (Apart 0 (headText C Flat plain)) refl (λ r. refl) (λ r. refl))
-    (by-border (Apart 0 (headText D Flat plain)) refl (λ r. refl) (λ r. refl))
-    (by-border (Apart 0 (headText E Flat plain)) refl (λ r. refl) (λ r. refl))
-    (by-border (Apart 0 (headText F Flat plain)) refl (λ r. refl) (λ r. refl))
-    (by-border (Apart 0 (headText G Flat plain)) refl (λ r. refl) (λ r. refl))
-    (by-border (Apart 0 (headText A Flat plain)) refl (λ r. refl) (λ r. refl))
-    (by-border (Apart 0 (headText B Flat plain)) refl (λ r. refl) (λ r. refl))
-head-apart Flat minor = each-letter (λ (l : NoteLiteral). (r : List ℕ) → Border r → Apart 0 (headText l Flat minor) r)
-    (by-border (Apart 0 (headText C Flat minor)) refl (λ r. refl) (λ r. refl))
-    (by-border (Apart 0 (headText D Flat minor)) refl (λ r. refl) (λ r. refl))
-    (by-border (Apart 0 (headText E Flat minor)) refl (λ r. refl) (λ r. refl))
-    (by-border (Apart 0 (headText F Flat minor)) refl (λ r. refl) (λ r. refl))
-    (by-border (Apart 0 (headText G Flat minor)) refl (λ r. refl) (λ r. refl))
-    (by-border (Apart 0 (headText A Flat minor)) refl (λ r. refl) (λ r. refl))
-    (by-border (Apart 0 (headText B Flat minor)) refl (λ r. refl) (λ r. refl))
-head-apart Flat diminished = each-letter (λ (l : NoteLiteral). (r : List ℕ) → Border r → Apart 0 (headText l Flat diminished) r)
-    (by-border (Apart 0 (headText C Flat diminished)) refl (λ r. refl) (λ r. refl))
-    (by-border (Apart 0 (headText D Flat diminished)) refl (λ r. refl) (λ r. refl))
-    (by-border (Apart 0 (headText E Flat diminished)) refl (λ r. refl) (λ r. refl))
-    (by-border (Apart 0 (headText F Flat diminished)) refl (λ r. refl) (λ r. refl))
-    (by-border (Apart 0 (headText G Flat diminished)) refl (λ r. refl) (λ r. refl))
-    (by-border (Apart 0 (headText A Flat diminished)) refl (λ r. refl) (λ r. refl))
-    (by-border (Apart 0 (headText B Flat diminished)) refl (λ r. refl) (λ r. refl))
+head-apart a f l r b =
+    by-letter (λ l. lex 0 [] 0 (headText l a f ++ r)) (λ l. lex 0 [] 0 (headText l a f) ++ lex 0 [] (after (headText l a f) 0) r)
+    (heads-apart a f r b) l
 
 -- The bass, or none, and End.
 
@@ -344,39 +244,35 @@ record Closing (b : OptionalNote) (q e : ℕ) : Type 0 where
   unsigned : Unsigned (closing b q e)
   parses : (xs : List Exp) → walk [] (found xs) (closing b q e) ≡ found (xs ++ bassExps b)
 
-abbrev Over : ℕ → ℕ → RootModifier → NoteLiteral → Type 0
-Over q e a l = Closing (Some (record { literal = l; modifier = a })) q e
+-- a note that is the bass
+abbrev noted : RootModifier → NoteLiteral → OptionalNote
+noted a l = Some (record { literal = l; modifier = a })
 
--- each bass is as asked; End gains nothing
-over : (q e : ℕ) (a : RootModifier) (l : NoteLiteral) → Over q e a l
+-- a bass is as asked with each letter, if the rows of what is asked are equal; End gains nothing
+overs : (q e : ℕ) (a : RootModifier) → row (λ l. count dim (closing (noted a l) q e)) ≡ row (λ l. 0)
+    → row (λ l. count maj (closing (noted a l) q e)) ≡ row (λ l. 0)
+    → row (λ l. isSign (nextAt (closing (noted a l) q e) 0)) ≡ row (λ l. false)
+    → row (λ l. signIn (nextAt (closing (noted a l) q e) 0)) ≡ row (λ l. Natural)
+    → ((xs : List Exp) → row (λ l. walk [] (found xs) (closing (noted a l) q e)) ≡ row (λ l. found ((xs ++ bassExps (noted a l)) ++ [])))
+    → (l : NoteLiteral)
+    → Closing (noted a l) q e
+overs q e a d m s t p l = record {
+  no-dim = by-letter (λ l. count dim (closing (noted a l) q e)) (λ l. 0) d l;
+  no-maj = by-letter (λ l. count maj (closing (noted a l) q e)) (λ l. 0) m l;
+  unsigned = (
+    by-letter (λ l. isSign (nextAt (closing (noted a l) q e) 0)) (λ l. false) s l,
+    by-letter (λ l. signIn (nextAt (closing (noted a l) q e) 0)) (λ l. Natural) t l,
+  );
+  parses = λ xs. by-letter (λ l. walk [] (found xs) (closing (noted a l) q e)) (λ l. found ((xs ++ bassExps (noted a l)) ++ [])) (p xs) l
+      ∙ ap found (append-nil (xs ++ bassExps (noted a l)));
+}
+
+-- each bass is as asked
+over : (q e : ℕ) (a : RootModifier) (l : NoteLiteral) → Closing (noted a l) q e
 unfolding headOf isDigit isLetter lex signOf longestOf words concat count foldOn isMaj join lastSix walk typeOf bits charOf encode isScalar
-over q e Natural =
-    each-letter (Over q e Natural)
-    (record { no-dim = refl; no-maj = refl; unsigned = (refl, refl); parses = λ xs. ap found (append-nil (xs ++ _)) })
-    (record { no-dim = refl; no-maj = refl; unsigned = (refl, refl); parses = λ xs. ap found (append-nil (xs ++ _)) })
-    (record { no-dim = refl; no-maj = refl; unsigned = (refl, refl); parses = λ xs. ap found (append-nil (xs ++ _)) })
-    (record { no-dim = refl; no-maj = refl; unsigned = (refl, refl); parses = λ xs. ap found (append-nil (xs ++ _)) })
-    (record { no-dim = refl; no-maj = refl; unsigned = (refl, refl); parses = λ xs. ap found (append-nil (xs ++ _)) })
-    (record { no-dim = refl; no-maj = refl; unsigned = (refl, refl); parses = λ xs. ap found (append-nil (xs ++ _)) })
-    (record { no-dim = refl; no-maj = refl; unsigned = (refl, refl); parses = λ xs. ap found (append-nil (xs ++ _)) })
-over q e Sharp =
-    each-letter (Over q e Sharp)
-    (record { no-dim = refl; no-maj = refl; unsigned = (refl, refl); parses = λ xs. ap found (append-nil (xs ++ _)) })
-    (record { no-dim = refl; no-maj = refl; unsigned = (refl, refl); parses = λ xs. ap found (append-nil (xs ++ _)) })
-    (record { no-dim = refl; no-maj = refl; unsigned = (refl, refl); parses = λ xs. ap found (append-nil (xs ++ _)) })
-    (record { no-dim = refl; no-maj = refl; unsigned = (refl, refl); parses = λ xs. ap found (append-nil (xs ++ _)) })
-    (record { no-dim = refl; no-maj = refl; unsigned = (refl, refl); parses = λ xs. ap found (append-nil (xs ++ _)) })
-    (record { no-dim = refl; no-maj = refl; unsigned = (refl, refl); parses = λ xs. ap found (append-nil (xs ++ _)) })
-    (record { no-dim = refl; no-maj = refl; unsigned = (refl, refl); parses = λ xs. ap found (append-nil (xs ++ _)) })
-over q e Flat =
-    each-letter (Over q e Flat)
-    (record { no-dim = refl; no-maj = refl; unsigned = (refl, refl); parses = λ xs. ap found (append-nil (xs ++ _)) })
-    (record { no-dim = refl; no-maj = refl; unsigned = (refl, refl); parses = λ xs. ap found (append-nil (xs ++ _)) })
-    (record { no-dim = refl; no-maj = refl; unsigned = (refl, refl); parses = λ xs. ap found (append-nil (xs ++ _)) })
-    (record { no-dim = refl; no-maj = refl; unsigned = (refl, refl); parses = λ xs. ap found (append-nil (xs ++ _)) })
-    (record { no-dim = refl; no-maj = refl; unsigned = (refl, refl); parses = λ xs. ap found (append-nil (xs ++ _)) })
-    (record { no-dim = refl; no-maj = refl; unsigned = (refl, refl); parses = λ xs. ap found (append-nil (xs ++ _)) })
-    (record { no-dim = refl; no-maj = refl; unsigned = (refl, refl); parses = λ xs. ap found (append-nil (xs ++ _)) })
+over q e Natural = overs q e Natural refl refl refl refl (λ xs. refl)
+over q e Sharp = overs q e Sharp refl refl refl refl (λ xs. refl)
+over q e Flat = overs q e Flat refl refl refl refl (λ xs. refl)
 
 -- and so is none
 close : (b : OptionalNote) (q e : ℕ) → Closing b q e

@@ -15,9 +15,9 @@ use Rattle.lexer.specs.declared.Head.{Head}
 use Rattle.lexer.specs.declared.Plan.{Plan}
 use Rattle.lexer.specs.declared.Scan.{Scan}
 
--- "words as rows of ten bytes with a length": a word's letters, and behind them the numbers of the places up to ten
+-- "words as rows of ten bytes with a length": a word's letters, and behind them the places up to ten, as the digits 0 to 9
 abbrev pub padded : Word → List ℕ
-padded w = w .text ++ drop (length (w .text)) (0 ∷ 1 ∷ 2 ∷ 3 ∷ 4 ∷ 5 ∷ 6 ∷ 7 ∷ 8 ∷ 9 ∷ [])
+padded w = w .text ++ drop (length (w .text)) (48 ∷ 49 ∷ 50 ∷ 51 ∷ 52 ∷ 53 ∷ 54 ∷ 55 ∷ 56 ∷ 57 ∷ [])
 
 -- the place in a list of the first word that begins with b; the list's length where there is none
 unfoldable pub firstPlace : ℕ → List Word → ℕ

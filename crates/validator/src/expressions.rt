@@ -37,6 +37,7 @@ fn is_add_target(interval: u8) -> bool
     }
 }
 
+// Is the interval one that Omit may name?
 fn is_omit_target(interval: u8) -> bool
     ensures { λ r. ⌜ r ≡ elem interval omitTargets ⌝ }
 {

@@ -18,6 +18,7 @@ use expression::parser_error::ParserError;
 use intervals::IntervalSet;
 use intervals::st;
 
+// Is the interval one that no extension may name?
 fn is_bad_extension(interval: u8) -> bool
     ensures { λ r. ⌜ r ≡ elem interval badExtensions ⌝ }
 {

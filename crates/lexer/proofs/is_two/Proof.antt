@@ -1,17 +1,14 @@
 -- Each arm by its number.
 -- Assumes nothing.
-use mathlib.Core.Path.{sym, ap}
 use borrow.Author.Tests.{ne-eqb}
-use Rattle.intervals.specs.Interval.{elem}
-use Rattle.lexer.specs.Lexer.{twoDigits}
 use Rattle.lexer.proofs.is_two.Statement.{statement}
 use Rattle.lexer.proofs.is_two.Tie as tie
 
 returns : tie.Need-returns
-returns c = sym (ap (λ d. elem d twoDigits) (c .match .keys1))
+returns c = search (c .match .keys1)
 
 returns-2 : tie.Need-returns-2
-returns-2 c = sym (ap (λ d. elem d twoDigits) (c .match .keys2))
+returns-2 c = search (c .match .keys2)
 
 returns-3 : tie.Need-returns-3
 returns-3 c = simp (ne-eqb _ _ (c .match .rest .1), ne-eqb _ _ (c .match .rest .0 .1))

@@ -1,8 +1,6 @@
 -- Each arm is the definition at that error.
 -- Assumes nothing.
-use mathlib.Core.Path.{sym, ap, _∙_}
 use borrow.Author.Needs.{needs}
-use Rattle.expression.specs.ParserError.{rowOf}
 use Rattle.expression.proofs.parser_error.numbers.Statement.{statement}
 use Rattle.expression.proofs.parser_error.numbers.Tie as tie
 
@@ -115,58 +113,90 @@ row-of-requires-18 : tie.Need-row-of-requires-18
 row-of-requires-18 c κs = search needs
 
 returns : tie.Need-returns
-returns c = c .row-of .ensures ∙ sym (ap rowOf (c .before .before .e .given .1))
+returns c =
+    let e = c .before .before .e .given .1 in
+    search e
 
 returns-2 : tie.Need-returns-2
-returns-2 c = c .row-of2 .ensures ∙ sym (ap rowOf (c .before .before .e2 .given .1))
+returns-2 c =
+    let e = c .before .before .e2 .given .1 in
+    search e
 
 returns-3 : tie.Need-returns-3
-returns-3 c = c .row-of3 .ensures ∙ sym (ap rowOf (c .before .before .e3 .given .1))
+returns-3 c =
+    let e = c .before .before .e3 .given .1 in
+    search e
 
 returns-4 : tie.Need-returns-4
-returns-4 c = c .row-of4 .ensures ∙ sym (ap rowOf (c .before .before .e4 .given .1))
+returns-4 c =
+    let e = c .before .before .e4 .given .1 in
+    search e
 
 returns-5 : tie.Need-returns-5
-returns-5 c = c .row-of5 .ensures ∙ sym (ap rowOf (c .before .before .e5 .given .1))
+returns-5 c =
+    let e = c .before .before .e5 .given .1 in
+    search e
 
 returns-6 : tie.Need-returns-6
-returns-6 c = c .row-of6 .ensures ∙ sym (ap rowOf (c .before .before .e6 .given .1))
+returns-6 c =
+    let e = c .before .before .e6 .given .1 in
+    search e
 
 returns-7 : tie.Need-returns-7
-returns-7 c = c .row-of7 .ensures ∙ sym (ap rowOf (c .before .before .e7 .given .1))
+returns-7 c =
+    let e = c .before .before .e7 .given .1 in
+    search e
 
 returns-8 : tie.Need-returns-8
-returns-8 c = c .row-of8 .ensures ∙ sym (ap rowOf (c .before .before .e8 .given .1))
+returns-8 c =
+    let e = c .before .before .e8 .given .1 in
+    search e
 
 returns-9 : tie.Need-returns-9
-returns-9 c = c .row-of9 .ensures ∙ sym (ap rowOf (c .before .enum-told .given .1))
+returns-9 c = search (c .before .enum-told .given .1)
 
 returns-10 : tie.Need-returns-10
-returns-10 c = c .row-of10 .ensures ∙ sym (ap rowOf (c .before .before .e9 .given .1))
+returns-10 c =
+    let e = c .before .before .e9 .given .1 in
+    search e
 
 returns-11 : tie.Need-returns-11
-returns-11 c = c .row-of11 .ensures ∙ sym (ap rowOf (c .before .before .e10 .given .1))
+returns-11 c =
+    let e = c .before .before .e10 .given .1 in
+    search e
 
 returns-12 : tie.Need-returns-12
-returns-12 c = c .row-of12 .ensures ∙ sym (ap rowOf (c .before .before .e11 .given .1))
+returns-12 c =
+    let e = c .before .before .e11 .given .1 in
+    search e
 
 returns-13 : tie.Need-returns-13
-returns-13 c = c .row-of13 .ensures ∙ sym (ap rowOf (c .before .before .e12 .given .1))
+returns-13 c =
+    let e = c .before .before .e12 .given .1 in
+    search e
 
 returns-14 : tie.Need-returns-14
-returns-14 c = c .row-of14 .ensures ∙ sym (ap rowOf (c .before .before .e13 .given .1))
+returns-14 c =
+    let e = c .before .before .e13 .given .1 in
+    search e
 
 returns-15 : tie.Need-returns-15
-returns-15 c = c .row-of15 .ensures ∙ sym (ap rowOf (c .before .before .e14 .given .1))
+returns-15 c =
+    let e = c .before .before .e14 .given .1 in
+    search e
 
 returns-16 : tie.Need-returns-16
-returns-16 c = c .row-of16 .ensures ∙ sym (ap rowOf (c .before .before .e15 .given .1))
+returns-16 c =
+    let e = c .before .before .e15 .given .1 in
+    search e
 
 returns-17 : tie.Need-returns-17
-returns-17 c = c .row-of17 .ensures ∙ sym (ap rowOf (c .before .before .e16 .given .1))
+returns-17 c =
+    let e = c .before .before .e16 .given .1 in
+    search e
 
 returns-18 : tie.Need-returns-18
-returns-18 c = c .row-of18 .ensures ∙ sym (ap rowOf (c .before .enum-told2 .given .1))
+returns-18 c = search (c .before .enum-told2 .given .1)
 
 pub numbers-spec : {M : Type 1} → statement M
 numbers-spec =

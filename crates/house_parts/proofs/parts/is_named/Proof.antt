@@ -91,7 +91,7 @@ contains-requires-14 : tie.Need-contains-requires-14
 contains-requires-14 c κs = search needs
 
 returns : tie.Need-returns
-returns c b = rw (c .contains .ensures, c .before .match .keys1)
+returns c b = search (c .before .match .keys1)
 
 returns-2 : tie.Need-returns-2
 returns-2 c b = rw (c .but .ensures, c .before .contains2 .ensures, c .before .before .match .keys2)
@@ -100,43 +100,43 @@ returns-3 : tie.Need-returns-3
 returns-3 c b = rw (c .but2 .ensures, c .before .contains3 .ensures, c .before .before .match .keys3)
 
 returns-4 : tie.Need-returns-4
-returns-4 c b = rw (c .contains4 .ensures, c .before .match .keys4)
+returns-4 c b = search (c .before .match .keys4)
 
 returns-5 : tie.Need-returns-5
-returns-5 c b = rw (c .contains5 .ensures, c .before .match .keys5)
+returns-5 c b = search (c .before .match .keys5)
 
 returns-6 : tie.Need-returns-6
-returns-6 c b = rw (c .is-flat2 .ensures, c .before .match .keys6)
+returns-6 c b = search (c .before .match .keys6)
 
 returns-7 : tie.Need-returns-7
-returns-7 c b = rw (c .is-second .ensures, c .before .match .keys7)
+returns-7 c b = search (c .before .match .keys7)
 
 returns-8 : tie.Need-returns-8
-returns-8 c b = rw (c .is-sharp4 .ensures, c .before .match .keys8)
+returns-8 c b = search (c .before .match .keys8)
 
 returns-9 : tie.Need-returns-9
-returns-9 c b = rw (c .is-omit3 .ensures, c .before .match .keys9)
+returns-9 c b = search (c .before .match .keys9)
 
 returns-10 : tie.Need-returns-10
-returns-10 c b = rw (c .is-omit5 .ensures, c .before .match .keys10)
+returns-10 c b = search (c .before .match .keys10)
 
 returns-11 : tie.Need-returns-11
-returns-11 c b = rw (c .contains6 .ensures, c .before .match .keys11)
+returns-11 c b = search (c .before .match .keys11)
 
 returns-12 : tie.Need-returns-12
-returns-12 c b = rw (c .is-add3 .ensures, c .before .match .keys12)
+returns-12 c b = search (c .before .match .keys12)
 
 returns-13 : tie.Need-returns-13
-returns-13 c b = rw (c .contains7 .ensures, c .before .match .keys13)
+returns-13 c b = search (c .before .match .keys13)
 
 returns-14 : tie.Need-returns-14
-returns-14 c b = rw (c .contains8 .ensures, c .before .match .keys14)
+returns-14 c b = search (c .before .match .keys14)
 
 returns-15 : tie.Need-returns-15
-returns-15 c b = rw (c .contains9 .ensures, c .before .match .keys15)
+returns-15 c b = search (c .before .match .keys15)
 
 returns-16 : tie.Need-returns-16
-returns-16 c b = rw (c .contains10 .ensures, c .before .match .keys16)
+returns-16 c b = search (c .before .match .keys16)
 
 returns-17 : tie.Need-returns-17
 returns-17 c b = rw (c .but3 .ensures, c .before .is-flat22 .ensures, c .before .before .match .keys17)
@@ -145,19 +145,19 @@ returns-18 : tie.Need-returns-18
 returns-18 c b = rw (c .but4 .ensures, c .before .is-second2 .ensures, c .before .before .match .keys18)
 
 returns-19 : tie.Need-returns-19
-returns-19 c b = rw (c .contains11 .ensures, c .before .match .keys19)
+returns-19 c b = search (c .before .match .keys19)
 
 returns-20 : tie.Need-returns-20
-returns-20 c b = rw (c .contains12 .ensures, c .before .match .keys20)
+returns-20 c b = search (c .before .match .keys20)
 
 returns-21 : tie.Need-returns-21
 returns-21 c b = rw (c .but5 .ensures, c .before .is-sharp42 .ensures, c .before .before .match .keys21)
 
 returns-22 : tie.Need-returns-22
-returns-22 c b = rw (c .contains13 .ensures, c .before .match .keys22)
+returns-22 c b = search (c .before .match .keys22)
 
 returns-23 : tie.Need-returns-23
-returns-23 c b = rw (c .contains14 .ensures, c .before .match .keys23)
+returns-23 c b = search (c .before .match .keys23)
 
 returns-24 : tie.Need-returns-24
 returns-24 c b = no-arm (c .before .args .i) 23 (0 ∷ 1 ∷ 2 ∷ 3 ∷ 4 ∷ 5 ∷ 6 ∷ 7 ∷ 8 ∷ 9 ∷ 10 ∷ 11 ∷ 12 ∷ 13 ∷ 14 ∷ 15 ∷ 16 ∷ 17 ∷ 18 ∷ 19 ∷ 20 ∷ 21 ∷ 22 ∷ []) tt (c .before .pre) (c .match .rest)

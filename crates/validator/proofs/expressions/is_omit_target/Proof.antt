@@ -1,17 +1,15 @@
 -- Each arm is a number of the list, and the last arm is told that it is none of them.
 -- Assumes nothing.
-use Rattle.intervals.specs.Interval.{elem}
 use Rattle.validator.proofs.Choices.{not-elem}
 use Rattle.validator.proofs.expressions.is_omit_target.Statement.{statement}
 use Rattle.validator.proofs.expressions.is_omit_target.Tie as tie
 use Rattle.validator.specs.Validator.{omitTargets}
-use mathlib.Core.Path.{sym, ap}
 
 returns : tie.Need-returns
-returns c = sym (ap (λ k. elem k omitTargets) (c .match .keys1))
+returns c = search (c .match .keys1)
 
 returns-2 : tie.Need-returns-2
-returns-2 c = sym (ap (λ k. elem k omitTargets) (c .match .keys2))
+returns-2 c = search (c .match .keys2)
 
 returns-3 : tie.Need-returns-3
 returns-3 c = not-elem (c .before .args .interval) omitTargets (c .match .rest)

@@ -60,49 +60,49 @@ enum-told-14 : tie.Need-enum-told-14
 enum-told-14 c = search needs
 
 returns : tie.Need-returns
-returns c = sym (ap (seeing (members (c .before .before .args .seen))) (c .enum-told .given .1))
+returns c = search (c .enum-told .given .1)
 
 returns-2 : tie.Need-returns-2
-returns-2 c = sym (ap (seeing (members (c .before .before .args .seen))) (c .enum-told2 .given .1))
+returns-2 c = search (c .enum-told2 .given .1)
 
 returns-3 : tie.Need-returns-3
-returns-3 c = sym (ap (seeing (members (c .before .before .args .seen))) (c .enum-told3 .given .1))
+returns-3 c = search (c .enum-told3 .given .1)
 
 returns-4 : tie.Need-returns-4
-returns-4 c = sym (ap (seeing (members (c .before .before .args .seen))) (c .enum-told4 .given .1))
+returns-4 c = search (c .enum-told4 .given .1)
 
 returns-5 : tie.Need-returns-5
-returns-5 c = sym (ap (seeing (members (c .before .before .args .seen))) (c .enum-told5 .given .1))
+returns-5 c = search (c .enum-told5 .given .1)
 
 returns-6 : tie.Need-returns-6
-returns-6 c = sym (ap (seeing (members (c .before .before .args .seen))) (c .enum-told6 .given .1))
+returns-6 c = search (c .enum-told6 .given .1)
 
 returns-7 : tie.Need-returns-7
-returns-7 c = sym (ap (seeing (members (c .before .before .args .seen))) (c .enum-told7 .given .1))
+returns-7 c = search (c .enum-told7 .given .1)
 
 returns-8 : tie.Need-returns-8
-returns-8 c = sym (ap (seeing (members (c .before .before .args .seen))) (c .enum-told8 .given .1))
+returns-8 c = search (c .enum-told8 .given .1)
 
 returns-9 : tie.Need-returns-9
-returns-9 c = sym (ap (seeing (members (c .before .before .args .seen))) (c .enum-told9 .given .1))
+returns-9 c = search (c .enum-told9 .given .1)
 
 returns-10 : tie.Need-returns-10
-returns-10 c = sym (ap (seeing (members (c .before .before .args .seen))) (c .enum-told10 .given .1))
+returns-10 c = search (c .enum-told10 .given .1)
 
 returns-11 : tie.Need-returns-11
-returns-11 c = sym (ap (seeing (members (c .before .before .args .seen))) (c .enum-told11 .given .1))
+returns-11 c = search (c .enum-told11 .given .1)
 
 returns-12 : tie.Need-returns-12
 returns-12 c = c .insert .ensures ∙ ap (insert (members (c .before .before .before .before .before .args .seen))) (c .before .semitones-of .ensures .0) ∙ sym (ap (seeing (members (c .before .before .before .before .before .args .seen))) (c .before .before .before .e .given .1))
 
 returns-13 : tie.Need-returns-13
-returns-13 c = sym (ap (seeing (members (c .before .before .args .seen))) (c .enum-told12 .given .1))
+returns-13 c = search (c .enum-told12 .given .1)
 
 returns-14 : tie.Need-returns-14
-returns-14 c = sym (ap (seeing (members (c .before .before .args .seen))) (c .enum-told13 .given .1))
+returns-14 c = search (c .enum-told13 .given .1)
 
 returns-15 : tie.Need-returns-15
-returns-15 c = sym (ap (seeing (members (c .before .before .args .seen))) (c .enum-told14 .given .1))
+returns-15 c = search (c .enum-told14 .given .1)
 
 pub seeing-one-spec : {M : Type 1} → statement M
 seeing-one-spec =

@@ -101,46 +101,46 @@ pack-requires-15 : tie.Need-pack-requires-15
 pack-requires-15 c κs = search needs
 
 returns : tie.Need-returns
-returns c = (c .pack .ensures .0 ∙ sym (ap expNumber (c .before .enum-told .given .1)), c .pack .ensures .1 ∙ sym (c .before .enum-told .given .1))
+returns c = search (c .before .enum-told .given .1)
 
 returns-2 : tie.Need-returns-2
-returns-2 c = (c .pack2 .ensures .0 ∙ sym (ap expNumber (c .before .enum-told2 .given .1)), c .pack2 .ensures .1 ∙ sym (c .before .enum-told2 .given .1))
+returns-2 c = search (c .before .enum-told2 .given .1)
 
 returns-3 : tie.Need-returns-3
-returns-3 c = (c .pack3 .ensures .0 ∙ sym (ap expNumber (c .before .enum-told3 .given .1)), c .pack3 .ensures .1 ∙ sym (c .before .enum-told3 .given .1))
+returns-3 c = search (c .before .enum-told3 .given .1)
 
 returns-4 : tie.Need-returns-4
-returns-4 c = (c .pack4 .ensures .0 ∙ sym (ap expNumber (c .before .enum-told4 .given .1)), c .pack4 .ensures .1 ∙ sym (c .before .enum-told4 .given .1))
+returns-4 c = search (c .before .enum-told4 .given .1)
 
 returns-5 : tie.Need-returns-5
-returns-5 c = (c .pack5 .ensures .0 ∙ sym (ap expNumber (c .before .enum-told5 .given .1)), c .pack5 .ensures .1 ∙ sym (c .before .enum-told5 .given .1))
+returns-5 c = search (c .before .enum-told5 .given .1)
 
 returns-6 : tie.Need-returns-6
-returns-6 c = (c .pack6 .ensures .0 ∙ sym (ap expNumber (c .before .enum-told6 .given .1)), c .pack6 .ensures .1 ∙ sym (c .before .enum-told6 .given .1))
+returns-6 c = search (c .before .enum-told6 .given .1)
 
 returns-7 : tie.Need-returns-7
-returns-7 c = (c .pack7 .ensures .0 ∙ sym (ap expNumber (c .before .enum-told7 .given .1)), c .pack7 .ensures .1 ∙ sym (c .before .enum-told7 .given .1))
+returns-7 c = search (c .before .enum-told7 .given .1)
 
 returns-8 : tie.Need-returns-8
-returns-8 c = (c .pack8 .ensures .0 ∙ sym (ap expNumber (c .before .enum-told8 .given .1)), c .pack8 .ensures .1 ∙ sym (c .before .enum-told8 .given .1))
+returns-8 c = search (c .before .enum-told8 .given .1)
 
 returns-9 : tie.Need-returns-9
-returns-9 c = (c .pack9 .ensures .0 ∙ sym (ap expNumber (c .before .enum-told9 .given .1)), c .pack9 .ensures .1 ∙ sym (c .before .enum-told9 .given .1))
+returns-9 c = search (c .before .enum-told9 .given .1)
 
 returns-10 : tie.Need-returns-10
-returns-10 c = (c .pack10 .ensures .0 ∙ sym (ap expNumber (c .before .enum-told10 .given .1)), c .pack10 .ensures .1 ∙ sym (c .before .enum-told10 .given .1))
+returns-10 c = search (c .before .enum-told10 .given .1)
 
 returns-11 : tie.Need-returns-11
-returns-11 c = (c .pack11 .ensures .0 ∙ sym (ap expNumber (c .before .before .self .given .1)), c .pack11 .ensures .1 ∙ sym (c .before .before .self .given .1))
+returns-11 c = search (c .before .before .self .given .1)
 
 returns-12 : tie.Need-returns-12
-returns-12 c = (c .pack12 .ensures .0 ∙ sym (ap expNumber (c .before .before .self2 .given .1)), c .pack12 .ensures .1 ∙ sym (c .before .before .self2 .given .1))
+returns-12 c = search (c .before .before .self2 .given .1)
 
 returns-13 : tie.Need-returns-13
-returns-13 c = (c .pack13 .ensures .0 ∙ sym (ap expNumber (c .before .before .self3 .given .1)), c .pack13 .ensures .1 ∙ sym (c .before .before .self3 .given .1))
+returns-13 c = search (c .before .before .self3 .given .1)
 
 returns-14 : tie.Need-returns-14
-returns-14 c = (c .pack14 .ensures .0 ∙ sym (ap expNumber (c .before .before .self4 .given .1)), c .pack14 .ensures .1 ∙ sym (c .before .before .self4 .given .1))
+returns-14 c = search (c .before .before .self4 .given .1)
 
 returns-15 : tie.Need-returns-15
 returns-15 c =
