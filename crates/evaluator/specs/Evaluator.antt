@@ -7,8 +7,8 @@ use lib.Dec.{eqb, leb}
 use Rattle.intervals.specs.Interval.{elem, Set, empty, insert, remove, removeThenAdd, unison, minorSecond, majorSecond, minorThird, majorThird, perfectFourth, augmentedFourth, diminishedFifth, perfectFifth, augmentedFifth, minorSixth, majorSixth, diminishedSeventh, minorSeventh, majorSeventh, flatNinth, ninth, sharpNinth, eleventh, sharpEleventh, flatThirteenth, thirteenth}
 use Rattle.note.specs.declared.OptionalNote.the-variants as optional
 use Rattle.note.specs.declared.OptionalNote.{OptionalNote}
-use Rattle.expression.specs.Expression.{onAdd, onExtension, onSlashBass, onSus}
-use Rattle.expression.specs.declared.expression.Exp.the-variants.{Power, Bass, Maj, Maj7, Minor, HalfDim, Dim, Dim7, Alt, Aug, Sus, Extension, Add, Omit, SlashBass}
+use Rattle.expression.specs.Expression.{onAdd, onExtension, onOmit, onSlashBass, onSus, onWord}
+use Rattle.expression.specs.declared.expression.Exp.the-variants.{Power, Bass, Maj, Maj7, Minor, HalfDim, Dim, Dim7, Alt, Aug}
 use Rattle.expression.specs.declared.expression.Exp.{Exp}
 use Rattle.evaluator.specs.declared.ast.BaseForm.the-variants as form
 use Rattle.evaluator.specs.declared.ast.BaseForm.{BaseForm}
@@ -28,21 +28,14 @@ seed = insert (insert (insert empty unison) majorThird) perfectFifth
 
 -- `evaluate_expressions`: what an expression does to the set at once
 abbrev pub direct : Set → Exp → Set
-direct s Power = s
-direct s Bass = remove (remove s perfectFifth) majorThird
-direct s Maj = s
-direct s Maj7 = insert s majorSeventh
-direct s Minor = s
-direct s HalfDim = s
-direct s Dim = s
-direct s Dim7 = s
-direct s Alt = insert s minorSeventh
-direct s Aug = s
-direct s (Sus x) = s
-direct s (Extension x p) = cond (elem x (majorSixth ∷ minorSixth ∷ minorSeventh ∷ [])) (insert s x) s
-direct s (Add x p) = s
-direct s (Omit x p) = s
-direct s (SlashBass n) = s
+direct s e =
+    onExtension
+    (onWord s
+    ((Bass, remove (remove s perfectFifth) majorThird)
+    ∷ (Maj7, insert s majorSeventh)
+    ∷ (Alt, insert s minorSeventh)
+    ∷ []) e)
+    (λ x p. cond (elem x (majorSixth ∷ minorSixth ∷ minorSeventh ∷ [])) (insert s x) s) e
 
 -- what it pushes to `alts`
 abbrev pub alterations : List ℕ
@@ -51,40 +44,20 @@ alterations =
     ∷ minorSeventh ∷ []
 
 abbrev pub altsOf : Exp → List ℕ
-altsOf Power = []
-altsOf Bass = []
-altsOf Maj = []
-altsOf Maj7 = []
-altsOf Minor = []
-altsOf HalfDim = []
-altsOf Dim = []
-altsOf Dim7 = []
-altsOf Alt = flatNinth ∷ sharpNinth ∷ sharpEleventh ∷ flatThirteenth ∷ []
-altsOf Aug = augmentedFifth ∷ []
-altsOf (Sus x) = cond (eqb x augmentedFourth) (sharpEleventh ∷ [])
-    (cond (eqb x minorSecond) (flatNinth ∷ []) (cond (eqb x majorSecond) (ninth ∷ []) []))
-altsOf (Extension x p) = cond (elem x alterations) (x ∷ []) []
-altsOf (Add x p) = []
-altsOf (Omit x p) = []
-altsOf (SlashBass n) = []
+altsOf e =
+    onSus
+    (onExtension
+    (onWord []
+    ((Alt, flatNinth ∷ sharpNinth ∷ sharpEleventh ∷ flatThirteenth ∷ [])
+    ∷ (Aug, augmentedFifth ∷ [])
+    ∷ []) e)
+    (λ x p. cond (elem x alterations) (x ∷ []) []) e)
+    (λ x. cond (eqb x augmentedFourth) (sharpEleventh ∷ [])
+    (cond (eqb x minorSecond) (flatNinth ∷ []) (cond (eqb x majorSecond) (ninth ∷ []) []))) e
 
 -- to `omits`
 abbrev pub omitsOf : Exp → List ℕ
-omitsOf Power = []
-omitsOf Bass = []
-omitsOf Maj = []
-omitsOf Maj7 = []
-omitsOf Minor = []
-omitsOf HalfDim = []
-omitsOf Dim = []
-omitsOf Dim7 = []
-omitsOf Alt = perfectFifth ∷ []
-omitsOf Aug = []
-omitsOf (Sus x) = majorThird ∷ []
-omitsOf (Extension x p) = []
-omitsOf (Add x p) = []
-omitsOf (Omit x p) = x ∷ []
-omitsOf (SlashBass n) = []
+omitsOf e = onSus (onOmit (onWord [] ((Alt, perfectFifth ∷ []) ∷ []) e) (λ x p. x ∷ []) e) (λ x. majorThird ∷ []) e
 
 -- to `adds`
 abbrev pub addsOf : Exp → List ℕ
@@ -95,21 +68,7 @@ abbrev pub isSus4 : Exp → Bool
 isSus4 e = onSus false (λ x. eqb x perfectFourth) e
 
 abbrev pub isMaj : Exp → Bool
-isMaj Power = false
-isMaj Bass = false
-isMaj Maj = true
-isMaj Maj7 = true
-isMaj Minor = false
-isMaj HalfDim = false
-isMaj Dim = false
-isMaj Dim7 = false
-isMaj Alt = false
-isMaj Aug = false
-isMaj (Sus x) = false
-isMaj (Extension x p) = false
-isMaj (Add x p) = false
-isMaj (Omit x p) = false
-isMaj (SlashBass n) = false
+isMaj e = onWord false ((Maj, true) ∷ (Maj7, true) ∷ []) e
 
 -- an extension 9, 11 or 13, else 0; the largest is `max_extension`
 abbrev pub extOf : Exp → ℕ
@@ -117,21 +76,9 @@ extOf e = onExtension 0 (λ x p. cond (elem x (ninth ∷ eleventh ∷ thirteenth
 
 -- the base form that it asks for
 abbrev pub formOf : Exp → BaseForm
-formOf Power = form.Power
-formOf Bass = form.Major
-formOf Maj = form.Major
-formOf Maj7 = form.Major
-formOf Minor = form.Minor
-formOf HalfDim = form.HalfDim
-formOf Dim = form.Dim
-formOf Dim7 = form.Dim7
-formOf Alt = form.Major
-formOf Aug = form.Major
-formOf (Sus x) = form.Major
-formOf (Extension x p) = form.Major
-formOf (Add x p) = form.Major
-formOf (Omit x p) = form.Major
-formOf (SlashBass n) = form.Major
+formOf e =
+    onWord form.Major
+    ((Power, form.Power) ∷ (Minor, form.Minor) ∷ (HalfDim, form.HalfDim) ∷ (Dim, form.Dim) ∷ (Dim7, form.Dim7) ∷ []) e
 
 -- the slash bass that it sets
 abbrev pub bassOf : OptionalNote → Exp → OptionalNote

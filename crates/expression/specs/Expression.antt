@@ -1,6 +1,8 @@
 -- Expressions, and an expression as one number, where it stands in an array.
-use mathlib.Core.List.{[], _∷_}
+use mathlib.Core.Bool.{cond}
+use mathlib.Core.List.{List, [], _∷_}
 use Prim.Native.Nat.{ℕ, _+_, _*_, _/_, _%_}
+use lib.Dec.{eqb}
 use lib.ListN.{getD}
 use Rattle.note.specs.Note.{noteNumber, noteOf}
 use Rattle.note.specs.declared.Note.{Note}
@@ -121,3 +123,26 @@ onSlashBass d f (Extension x p) = d
 onSlashBass d f (Add x p) = d
 onSlashBass d f (Omit x p) = d
 onSlashBass d f (SlashBass n) = f n
+
+-- the number of its kind, in the order of `Exp`
+abbrev pub kindNumber : Exp → ℕ
+kindNumber Power = 0
+kindNumber Bass = 1
+kindNumber Maj = 2
+kindNumber Maj7 = 3
+kindNumber Minor = 4
+kindNumber HalfDim = 5
+kindNumber Dim = 6
+kindNumber Dim7 = 7
+kindNumber Alt = 8
+kindNumber Aug = 9
+kindNumber (Sus x) = 10
+kindNumber (Extension x p) = 11
+kindNumber (Add x p) = 12
+kindNumber (Omit x p) = 13
+kindNumber (SlashBass n) = 14
+
+-- what stands beside an expression of one word in a list; d for every other expression
+abbrev pub onWord {ℓ} : {A : Type ℓ} → A → List (Exp × A) → Exp → A
+onWord d [] e = d
+onWord d ((w, a) ∷ l) e = cond (eqb (kindNumber w) (kindNumber e)) a (onWord d l e)
