@@ -8,7 +8,7 @@ use Prim.Native.Nat.{ℕ, zero, suc, _<_}
 use native.Mathlib.Nat.{not-suc-le-zero, le-of-suc-le-suc}
 use lib.Dec.{T, eqb, ltb, ltb→lt}
 use lib.ListN.{getD}
-use Rattle.intervals.specs.Interval.{elem, Set, empty, insert, remove, removeThenAdd}
+use Rattle.intervals.specs.Interval.{Set, empty, insert, remove, removeThenAdd}
 use Rattle.note.specs.Note.{noteOf}
 use Rattle.note.specs.declared.Note.{Note}
 use Rattle.display.specs.Display.{firstSus, susOf}
@@ -175,7 +175,7 @@ not-right false b t = t
 
 -- a member that implied_extensions does not touch
 abbrev still5 : ℕ → Bool
-still5 j = not (elem j (4 ∷ 5 ∷ 13 ∷ 14 ∷ 17 ∷ 19 ∷ 22 ∷ []))
+still5 j = not (any (λ k. eqb k j) (4 ∷ 5 ∷ 13 ∷ 14 ∷ 17 ∷ 19 ∷ 22 ∷ []))
 
 module _ (j : ℕ) (e4 : eqb 4 j ≡ false) (e5 : eqb 5 j ≡ false) (e13 : eqb 13 j ≡ false) (e14 : eqb 14 j ≡ false) (e17 : eqb 17 j ≡ false) (e19 : eqb 19 j ≡ false) (e22 : eqb 22 j ≡ false) where
   ins : (x : ℕ) → eqb x j ≡ false → (s : Set) → insert s x j ≡ s j
@@ -229,7 +229,7 @@ implied-still ext M mj s j t4 =
 
 -- a member that prune does not touch
 abbrev still8 : ℕ → Bool
-still8 j = not (elem j (5 ∷ 19 ∷ 22 ∷ []))
+still8 j = not (any (λ k. eqb k j) (5 ∷ 19 ∷ 22 ∷ []))
 
 prune-still : (s : Set) (j : ℕ) → T (still8 j) → prune11 (prune6 s) j ≡ s j
 unfolding insert remove

@@ -82,37 +82,37 @@ implies-requires-5 : tie.Need-implies-requires-5
 implies-requires-5 c κs = search needs
 
 returns : tie.Need-returns
-returns c = search (c .before .match .keys1)
+returns c = rw (c .contains .ensures, c .before .match .keys1)
 
 returns-2 : tie.Need-returns-2
-returns-2 c = search (c .before .match .keys2)
+returns-2 c = rw (c .contains2 .ensures, c .before .match .keys2)
 
 returns-3 : tie.Need-returns-3
-returns-3 c = search (c .before .match .keys3)
+returns-3 c = rw (c .contains3 .ensures, c .before .match .keys3)
 
 returns-4 : tie.Need-returns-4
-returns-4 c = search (c .before .match .keys4)
+returns-4 c = rw (c .contains4 .ensures, c .before .match .keys4)
 
 returns-5 : tie.Need-returns-5
-returns-5 c = search (c .before .match .keys5)
+returns-5 c = rw (c .both .ensures, c .before .match .keys5)
 
 returns-6 : tie.Need-returns-6
-returns-6 c = search (c .before .match .keys6)
+returns-6 c = rw (c .both2 .ensures, c .before .match .keys6)
 
 returns-7 : tie.Need-returns-7
-returns-7 c = search (c .before .match .keys7)
+returns-7 c = rw (c .both3 .ensures, c .before .match .keys7)
 
 returns-8 : tie.Need-returns-8
-returns-8 c = search (c .before .match .keys8)
+returns-8 c = rw (c .both4 .ensures, c .before .match .keys8)
 
 returns-9 : tie.Need-returns-9
 returns-9 c = rw (c .implies .ensures, c .before .contains5 .ensures, c .before .before .both5 .ensures, c .before .before .before .match .keys9)
 
 returns-10 : tie.Need-returns-10
-returns-10 c = search (c .before .match .keys10)
+returns-10 c = rw (c .both6 .ensures, c .before .match .keys10)
 
 returns-11 : tie.Need-returns-11
-returns-11 c = search (c .before .match .keys11)
+returns-11 c = rw (c .both7 .ensures, c .before .match .keys11)
 
 returns-12 : tie.Need-returns-12
 returns-12 c = rw (c .implies2 .ensures, c .before .contains6 .ensures, c .before .before .is-sus .ensures, c .before .before .before .match .keys12)
