@@ -9,14 +9,14 @@ use reader::Reading;
 
 // Appends a number behind a space.
 fn put_next(out: &mut [u8], used: usize, n: u64) -> usize {
-    let u = lines::put(out, used, b' ');
-    lines::put_number(out, u, n, 0)
+    let u = output::put(out, used, b' ');
+    output::put_number(out, u, n, 0)
 }
 
 // Appends a note's letter and alteration, or -1 and 0 where there is none.
 fn put_note(out: &mut [u8], used: usize, note: OptionalNote) -> usize {
     match note {
-        OptionalNote::None => lines::put_bytes(out, used, b" -1 0"),
+        OptionalNote::None => output::put_bytes(out, used, b" -1 0"),
         OptionalNote::Some(n) => {
             let l = n.literal;
             let m = n.modifier;
@@ -28,12 +28,12 @@ fn put_note(out: &mut [u8], used: usize, note: OptionalNote) -> usize {
 
 fn put_alteration(out: &mut [u8], used: usize, a: i8) -> usize {
     if a < 0 {
-        return lines::put_bytes(out, used, b" -1");
+        return output::put_bytes(out, used, b" -1");
     }
     if 0 < a {
-        return lines::put_bytes(out, used, b" 1");
+        return output::put_bytes(out, used, b" 1");
     }
-    lines::put_bytes(out, used, b" 0")
+    output::put_bytes(out, used, b" 0")
 }
 
 fn one(yes: bool) -> u64
@@ -97,7 +97,7 @@ fn put_record(out: &mut [u8], used: usize, chord: Chord) -> usize {
     let bass = chord.bass;
     let set = chord.normalized;
     let list = chord.display;
-    let a = lines::put(out, used, b'0');
+    let a = output::put(out, used, b'0');
     let b = put_note(out, a, root);
     let c = put_note(out, b, bass);
     let d = put_set(out, c, set);
@@ -120,7 +120,7 @@ fn put_shorts(out: &mut [u8], used: usize, numbers: &[u16]) -> usize {
 
 // Appends a refusal's number, the count of its errors, and the errors, which the list begins with.
 fn put_errors(out: &mut [u8], used: usize, number: u8, errs: &[u16], n: u16) -> usize {
-    let u = lines::put(out, used, number);
+    let u = output::put(out, used, number);
     let v = put_short(out, u, n);
     let k = 4 * (n as usize);
     if k <= errs.len() {
@@ -135,11 +135,23 @@ pub(crate) fn put_reading(out: &mut [u8], used: usize, reading: Reading, errs: &
     let chord = reading.chord;
     match answer {
         reader::Answer::Accepted => put_record(out, used, chord),
-        reader::Answer::ShortList => lines::put(out, used, b'1'),
-        reader::Answer::LongText => lines::put(out, used, b'2'),
-        reader::Answer::NotUtf8 => lines::put(out, used, b'3'),
+        reader::Answer::ShortList => output::put(out, used, b'1'),
+        reader::Answer::LongText => output::put(out, used, b'2'),
+        reader::Answer::NotUtf8 => output::put(out, used, b'3'),
         reader::Answer::Parse(n) => put_errors(out, used, b'4', errs, n),
         reader::Answer::Validation(n) => put_errors(out, used, b'5', errs, n),
+    }
+}
+
+// The digit of what a text was answered.
+fn digit(answer: reader::Answer) -> u8 {
+    match answer {
+        reader::Answer::Accepted => b'0',
+        reader::Answer::ShortList => b'1',
+        reader::Answer::LongText => b'2',
+        reader::Answer::NotUtf8 => b'3',
+        reader::Answer::Parse(_) => b'4',
+        reader::Answer::Validation(_) => b'5',
     }
 }
 
@@ -147,17 +159,14 @@ pub(crate) fn put_reading(out: &mut [u8], used: usize, reading: Reading, errs: &
 pub(crate) fn put_spelling(out: &mut [u8], used: usize, reading: Reading) -> usize {
     let mut buffer = [0u8; 112];
     let answer = reading.answer;
-    match answer {
-        reader::Answer::Accepted => match writer::write(reading.chord, &mut buffer) {
-            writer::Answer::Spelled(n) => lines::put_first(out, used, &buffer, n),
-            writer::Answer::ShortBuffer => lines::put(out, used, b'6'),
-            writer::Answer::NoText => lines::put(out, used, b'7'),
-        },
-        reader::Answer::ShortList => lines::put(out, used, b'1'),
-        reader::Answer::LongText => lines::put(out, used, b'2'),
-        reader::Answer::NotUtf8 => lines::put(out, used, b'3'),
-        reader::Answer::Parse(_) => lines::put(out, used, b'4'),
-        reader::Answer::Validation(_) => lines::put(out, used, b'5'),
+    let number = digit(answer);
+    if number != b'0' {
+        return output::put(out, used, number);
+    }
+    match writer::write(reading.chord, &mut buffer) {
+        writer::Answer::Spelled(n) => output::put_first(out, used, &buffer, n),
+        writer::Answer::ShortBuffer => output::put(out, used, b'6'),
+        writer::Answer::NoText => output::put(out, used, b'7'),
     }
 }
 
@@ -165,22 +174,22 @@ pub(crate) fn put_spelling(out: &mut [u8], used: usize, reading: Reading) -> usi
 pub(crate) fn put_written(out: &mut [u8], used: usize, record: Record, buffer: &mut [u8]) -> usize {
     let chord = record.chord;
     if buffer.len() < 112 {
-        return lines::put(out, used, b'6');
+        return output::put(out, used, b'6');
     }
     if !record.is_record {
-        return lines::put(out, used, b'7');
+        return output::put(out, used, b'7');
     }
     match writer::write(chord, buffer) {
         writer::Answer::Spelled(n) => put_text(out, used, buffer, n),
-        writer::Answer::ShortBuffer => lines::put(out, used, b'6'),
-        writer::Answer::NoText => lines::put(out, used, b'7'),
+        writer::Answer::ShortBuffer => output::put(out, used, b'6'),
+        writer::Answer::NoText => output::put(out, used, b'7'),
     }
 }
 
 // Appends 0, the length of a spelling, and the spelling.
 fn put_text(out: &mut [u8], used: usize, buffer: &[u8], n: usize) -> usize {
-    let u = lines::put(out, used, b'0');
+    let u = output::put(out, used, b'0');
     let v = put_next(out, u, n as u64);
-    let w = lines::put(out, v, b' ');
-    lines::put_first(out, w, buffer, n)
+    let w = output::put(out, v, b' ');
+    output::put_first(out, w, buffer, n)
 }

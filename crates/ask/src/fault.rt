@@ -33,11 +33,11 @@ impl Fault {
 pub(crate) fn put_fault(out: &mut [u8], used: usize, fault: Fault) -> usize {
     match fault {
         Fault::Nothing => used,
-        Fault::NoQuestion => lines::put_bytes(out, used, b"? the first word is no question"),
-        Fault::LongLine => lines::put_bytes(out, used, b"? the line has more than 16384 bytes"),
-        Fault::NoNumber => lines::put_bytes(out, used, b"? a number is missing or not decimal"),
-        Fault::LargeNumber => lines::put_bytes(out, used, b"? a number is too large"),
-        Fault::MoreThanRecord => lines::put_bytes(
+        Fault::NoQuestion => output::put_bytes(out, used, b"? the first word is no question"),
+        Fault::LongLine => output::put_bytes(out, used, b"? the line has more than 16384 bytes"),
+        Fault::NoNumber => output::put_bytes(out, used, b"? a number is missing or not decimal"),
+        Fault::LargeNumber => output::put_bytes(out, used, b"? a number is too large"),
+        Fault::MoreThanRecord => output::put_bytes(
             out,
             used,
             b"? the line goes on behind the record",

@@ -131,9 +131,9 @@ fn answer_line(out: &mut [u8], used: usize, line: &[u8], s: Input) -> usize
         return used;
     }
     let len = s.len;
-    let u = lines::room(out, used, 32768);
+    let u = output::room(out, used, 32768);
     let v = put_answer(out, u, &line[..len]);
-    lines::put(out, v, b'\n')
+    output::put(out, v, b'\n')
 }
 
 // Writes what waits where the block has no bytes left, before the next is waited for.
@@ -141,7 +141,7 @@ fn settled(out: &[u8], used: usize, s: Input) -> usize {
     if s.at < s.end {
         return used;
     }
-    lines::flush(out, used)
+    output::flush(out, used)
 }
 
 // Answers every line of standard input.

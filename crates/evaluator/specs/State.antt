@@ -9,7 +9,7 @@ use Rattle.intervals.specs.Stored.{listOf, listed, members, setOf}
 use Rattle.intervals.specs.Interval.{Set}
 use Rattle.expression.specs.Expression.{expOf}
 use Rattle.expression.specs.declared.expression.Exp.{Exp}
-use Rattle.step.specs.Bounds.{Sound}
+use Rattle.expression.specs.Bounds.{Sound}
 use Rattle.display.specs.Display.{displayOf, firstSus}
 use Rattle.evaluator.specs.Evaluator.{addBy, alterBy, any, baseForm, bassOf, direct, evalSet, extAt, formAt, isMaj, isSus4, maxExt, omitBy, seed, slashBass, foldLeft}
 use Rattle.evaluator.specs.declared.evaluator.Descriptor.{Descriptor}

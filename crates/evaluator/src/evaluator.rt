@@ -4,7 +4,7 @@ ghost use mathlib.Core.List.{[], map};
 ghost use mathlib.Core.Path.{_≡_};
 ghost use Rattle.intervals.specs.Stored.{members};
 ghost use Rattle.expression.specs.Expression.{expOf};
-ghost use Rattle.step.specs.Bounds.{Sound};
+ghost use Rattle.expression.specs.Bounds.{Sound};
 ghost use Rattle.display.specs.Display.{firstSus};
 ghost use Rattle.evaluator.specs.Evaluator.{foldLeft, evalSet};
 ghost use Rattle.evaluator.specs.State.{Sounds, Described, Seen, Answered, changeBy};

@@ -4,7 +4,7 @@ ghost use Prim.Native.Nat.{_<_};
 ghost use Rattle.intervals.specs.Interval.{elem};
 ghost use Rattle.intervals.specs.Stored.{members};
 ghost use Rattle.expression.specs.declared.expression.Exp.the-variants as exp;
-ghost use Rattle.step.specs.Bounds.{Sound};
+ghost use Rattle.expression.specs.Bounds.{Sound};
 ghost use Rattle.display.specs.Display.{susOf};
 ghost use Rattle.evaluator.specs.Evaluator.{alterations, direct, isSus4, isMaj, extOf, extAt, bassOf, removeThirds, applySus, alter, alterBy, imply9, imply11, imply7, implied13, implied11, implied9, implied, omit, omitBy, add, addBy, prune6, prune11};
 use expression::expression::Exp;

@@ -1,2 +1,3 @@
 pub mod ParserError
 pub mod Expression
+pub mod Bounds

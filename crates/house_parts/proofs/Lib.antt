@@ -1,12 +1,2 @@
 pub mod Bools
-pub mod Struct
 pub mod Tests
-pub mod Bits
-pub mod Round
-pub mod Invariants
-pub mod Back
-pub mod Allowed
-pub mod Accepted
-pub mod Low
-pub mod Beyond
-pub mod Displayed

@@ -1,3 +1,13 @@
+pub mod Struct
+pub mod Bits
+pub mod Round
+pub mod Invariants
+pub mod Back
+pub mod Allowed
+pub mod Accepted
+pub mod Low
+pub mod Beyond
+pub mod Displayed
 pub mod Piecewise
 pub mod TextLemma
 pub mod Length

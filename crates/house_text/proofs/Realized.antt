@@ -21,16 +21,16 @@ use Rattle.evaluator.specs.Evaluator.{evalSet}
 use Rattle.expression.specs.declared.expression.Exp.{Exp}
 use Rattle.expression.specs.declared.parser_error.ParserError.the-variants.{InconsistentExtension}
 use Rattle.expression.specs.declared.parser_error.ParserError.{ParserError}
-use Rattle.house_parts.proofs.Accepted.{spelled-valid}
-use Rattle.house_parts.proofs.Allowed.{allowed-of, nil}
-use Rattle.house_parts.proofs.Back.{bass-back, kind-back}
-use Rattle.house_parts.proofs.Beyond.{beyond, spelled-allowed}
+use Rattle.house_text.proofs.Accepted.{spelled-valid}
+use Rattle.house_text.proofs.Allowed.{allowed-of, nil}
+use Rattle.house_text.proofs.Back.{bass-back, kind-back}
+use Rattle.house_text.proofs.Beyond.{beyond, spelled-allowed}
 use Rattle.house_parts.proofs.Bools.{and-left, and-right, both-pass}
-use Rattle.house_parts.proofs.Displayed.{display-by, kind-displayed}
-use Rattle.house_parts.proofs.Invariants.{struct}
-use Rattle.house_parts.proofs.Low.{Low, low-of, within-of}
-use Rattle.house_parts.proofs.Round.{round-at}
-use Rattle.house_parts.proofs.Struct.{Struct, apart, together}
+use Rattle.house_text.proofs.Displayed.{display-by, kind-displayed}
+use Rattle.house_text.proofs.Invariants.{struct}
+use Rattle.house_text.proofs.Low.{Low, low-of, within-of}
+use Rattle.house_text.proofs.Round.{round-at}
+use Rattle.house_text.proofs.Struct.{Struct, apart, together}
 use Rattle.house_parts.proofs.Tests.{same-lists, same-self}
 use Rattle.house_parts.specs.House.{displayBy, isSome, kindIn, kindOf, spellExps}
 use Rattle.house_parts.specs.declared.kind.SusKind.{SusKind}
@@ -44,7 +44,7 @@ use Rattle.house_text.proofs.WellFormed.{spelled-utf8}
 use Rattle.house_text.specs.Spelling.{house, houseBy, spell}
 use Rattle.reader.proofs.Answers.{Way, accept, bytes, is-text, long, parse, validation, way}
 use Rattle.reader.specs.Reader.{IsAccepted, ReadOutcome, accepted, answerTo, judge, tokensIn}
-use Rattle.step.specs.Bounds.{Sound}
+use Rattle.expression.specs.Bounds.{Sound}
 use Rattle.utf8.specs.Utf8.{wellFormed}
 use Rattle.validator.specs.Validator.{allFrom, conflictAt, expressionErrors, extensionErrors, extensionFault, firstWrong, isNil, only, orElse, repeated, semitoneErrors, setValid, validationOf}
 

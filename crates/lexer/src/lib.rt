@@ -26,7 +26,7 @@ use token::SLASH;
 use utf8::Found;
 
 // The words of `from_string`, as rows of ten bytes. What fills a row is not looked at; it counts the places, since a run of equal bytes in
-// a table takes three times as long to set up.
+// a table takes several times as long to set up.
 pub const WORDS: [[u8; 10]; 55] = [
     *b"BASS456789",
     *b"Bass456789",
@@ -185,8 +185,8 @@ fn wide(n: u8) -> usize
 
 // The letter j of word i.
 fn letter(words: &[[u8; 10]; 55], i: usize, j: usize) -> u8
-    requires { ⌜ (i < 55) × (j < 10) ⌝ }
-    ensures { λ r. ⌜ r ≡ getD (getD (now (words .entry)) i []) j 0 ⌝ }
+    requires { ⌜ (now words ≡ map padded wordList) × (i < 55) × (j < length (wordAt i .text)) ⌝ }
+    ensures { λ r. ⌜ r ≡ getD (wordAt i .text) j 0 ⌝ }
 {
     words[i][j]
 }

@@ -9,9 +9,9 @@ use lib.Dec.{eqb, ltb}
 use lib.ListN.{length}
 use lib.Seq.{length-take-le}
 use Rattle.lines.specs.Input.{Inside, Next, Read, Took, between, counted, kept, toNewline}
-use Rattle.lines.specs.Output.{Put}
-use Rattle.lines.specs.declared.input.Input.{Input}
-use Rattle.lines.proofs.Puts.{put-inside}
+use Rattle.output.specs.Output.{Put}
+use Rattle.lines.specs.declared.Input.{Input}
+use Rattle.output.proofs.Puts.{put-inside}
 
 kept-le : (b : Bool) (l m : ℕ) → l ≤ m → cond b 0 l ≤ m
 kept-le true l m h = omega arith

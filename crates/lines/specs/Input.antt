@@ -5,8 +5,8 @@ use mathlib.Core.Path.{_≡_}
 use Prim.Native.Nat.{ℕ, suc, _+_, _-_, _≤_, _<_, min}
 use lib.Dec.{eqb, ltb}
 use lib.ListN.{drop, length, take}
-use Rattle.lines.specs.Output.{Put}
-use Rattle.lines.specs.declared.input.Input.{Input}
+use Rattle.output.specs.Output.{Put}
+use Rattle.lines.specs.declared.Input.{Input}
 
 -- how many bytes stand before the first newline, or in all where there is none
 unfoldable pub toNewline : List ℕ → ℕ

@@ -1,8 +1,7 @@
 // Notes: letter and modifier, their numbers and their pitch classes.
 ghost use mathlib.Core.Path.{_≡_};
 ghost use Prim.Native.Nat.{_<_};
-ghost use Rattle.note.specs.Note.{memberClass};
-ghost use Rattle.note.specs.Note.{letterNumber, letterOf, alterationOf, modifierNumber, modifierOf, noteNumber, noteOf, pitchClass};
+ghost use Rattle.note.specs.Note.{letterNumber, letterOf, alterationOf, memberClass, modifierNumber, modifierOf, noteNumber, noteOf, pitchClass};
 use intervals::st;
 
 mod pitch;

@@ -12,14 +12,14 @@ use note::RootModifier;
 
 // Appends a number, right-justified in four columns.
 fn put_number(out: &mut [u8], used: usize, n: u64) -> usize {
-    lines::put_number(out, used, n, 4)
+    output::put_number(out, used, n, 4)
 }
 
 // Appends -1, 0 or 1.
 fn put_alteration(out: &mut [u8], used: usize, m: RootModifier) -> usize {
     let a = m.alteration();
     if a < 0 {
-        return lines::put_bytes(out, used, b"  -1");
+        return output::put_bytes(out, used, b"  -1");
     }
     if 0 < a {
         return put_number(out, used, 1);
@@ -120,10 +120,10 @@ fn answer(out: &mut [u8], used: usize, line: &[u8], s: Input) -> usize
         return used;
     }
     let len = s.len;
-    let u = lines::room(out, used, 32768);
+    let u = output::room(out, used, 32768);
     let v = put_number(out, u, s.lines);
     let w = put_answer(out, v, &line[..len]);
-    lines::put(out, w, b'\n')
+    output::put(out, w, b'\n')
 }
 
 // Answers every line of standard input.
@@ -134,7 +134,7 @@ fn answer_all(out: &mut [u8], line: &mut [u8], block: &mut [u8]) {
         s = lines::next(block, line, s);
         used = answer(out, used, line, s);
     }
-    lines::flush(out, used);
+    output::flush(out, used);
 }
 
 fn main() {

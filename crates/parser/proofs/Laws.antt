@@ -9,7 +9,8 @@ use Rattle.note.specs.declared.Note.{Note}
 use Rattle.note.specs.declared.OptionalNote.the-variants as optional
 use Rattle.note.specs.declared.OptionalNote.{OptionalNote}
 use Rattle.step.proofs.Laws.{inside-small, inside-sound, step-small, step-sound}
-use Rattle.step.specs.Bounds.{Small, Sound, SoundGains, gainsCount, susBit}
+use Rattle.expression.specs.Bounds.{Sound}
+use Rattle.step.specs.Bounds.{Small, SoundGains, gainsCount, susBit}
 use Rattle.step.specs.declared.effect.Effect.{Effect}
 use Rattle.step.specs.declared.effect.Gains.the-variants as gains
 use Rattle.step.specs.declared.effect.Gains.{Gains}

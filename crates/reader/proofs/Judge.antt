@@ -13,7 +13,7 @@ use Rattle.note.specs.declared.OptionalNote.{OptionalNote}
 use Rattle.expression.specs.Expression.{expOf}
 use Rattle.expression.specs.declared.expression.Exp.{Exp}
 use Rattle.token.specs.Token.{Token}
-use Rattle.step.specs.Bounds.{Sound}
+use Rattle.expression.specs.Bounds.{Sound}
 use Rattle.evaluator.specs.State.{Sounds}
 use Rattle.parser.specs.All.{All}
 use Rattle.reader.specs.Reader.{ReadOutcome, countOf, judge, numberOf, parsed, refused, validated}

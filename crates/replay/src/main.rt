@@ -81,14 +81,14 @@ fn same(a: &[u8], b: &[u8]) -> bool
 
 // Appends a number, right-justified in four columns.
 fn put_number(out: &mut [u8], used: usize, n: u64) -> usize {
-    lines::put_number(out, used, n, 4)
+    output::put_number(out, used, n, 4)
 }
 
 // Appends -1, 0 or 1.
 fn put_alteration(out: &mut [u8], used: usize, m: RootModifier) -> usize {
     let a = m.alteration();
     if a < 0 {
-        return lines::put_bytes(out, used, b"  -1");
+        return output::put_bytes(out, used, b"  -1");
     }
     if 0 < a {
         return put_number(out, used, 1);
@@ -263,17 +263,17 @@ fn put_case(out: &mut [u8], used: usize, case: u64, is_right: bool) -> usize {
     if is_right {
         return used;
     }
-    let u = lines::room(out, used, 32768);
-    let v = lines::put_number(out, u, case, 0);
-    lines::put(out, v, b'\n')
+    let u = output::room(out, used, 32768);
+    let v = output::put_number(out, u, case, 0);
+    output::put(out, v, b'\n')
 }
 
 // Appends `N right, M wrong`, as a line.
 fn put_counts(out: &mut [u8], used: usize, right: u64, wrong: u64) -> usize {
-    let u = lines::put_number(out, used, right, 0);
-    let v = lines::put_bytes(out, u, b" right, ");
-    let w = lines::put_number(out, v, wrong, 0);
-    lines::put_bytes(out, w, b" wrong\n")
+    let u = output::put_number(out, used, right, 0);
+    let v = output::put_bytes(out, u, b" right, ");
+    let w = output::put_number(out, v, wrong, 0);
+    output::put_bytes(out, w, b" wrong\n")
 }
 
 // The progress after a case: its number is printed where it is wrong.
@@ -297,7 +297,7 @@ fn take_line(out: &mut [u8], text: &mut [u8], line: &[u8], p: Progress) -> Progr
     }
     Progress {
         whole: true,
-        text: lines::put_bytes(text, 0, line),
+        text: output::put_bytes(text, 0, line),
         cases: p.cases,
         right: p.right,
         used: p.used,
@@ -443,14 +443,14 @@ fn lists() -> u64 {
 // Appends what the lent lists gave, as a line.
 fn put_lists(out: &mut [u8], used: usize) -> usize {
     let right = lists();
-    let u = lines::put_bytes(out, used, b"lists: ");
+    let u = output::put_bytes(out, used, b"lists: ");
     put_counts(out, u, right, less(20, right))
 }
 
 fn answer_all(out: &mut [u8], text: &mut [u8], line: &mut [u8], block: &mut [u8]) {
     let u = replay(out, text, line, block);
     let v = put_lists(out, u);
-    lines::flush(out, v);
+    output::flush(out, v);
 }
 
 fn main() {

@@ -1,7 +1,7 @@
-// Every record that some accepted text has, written and read back. For each of the 2^23 sets of intervals and each K the record with that set
-// and the display list that they give is put the writer's question; where it is yes, the record is written with every root and every bass, and
-// its spelling is read. Printed: how many pairs of set and display list have a text, how many texts were read, how many of these were refused
-// or read as another four, and the length of the longest.
+// Every record that some accepted text has, written and read back. For each of the 2^23 sets of intervals and each K the record with that
+// set and the display list that they give is put the writer's question; where it is yes, the record is written with every root and every
+// bass, and its spelling is read. Printed: how many pairs of set and display list have a text, how many texts were read, how many of
+// these were refused or read as another four, and the length of the longest.
 use chord::Chord;
 use intervals::IntervalList;
 use intervals::IntervalSet;

@@ -17,7 +17,8 @@ use Rattle.token.specs.declared.Bracket.{Bracket}
 use Rattle.token.specs.declared.TokenType.the-variants as type
 use Rattle.token.specs.declared.TokenType.{TokenType}
 use Rattle.step.proofs.Count.{near}
-use Rattle.step.specs.{Bounds.Small, Bounds.Sound, Bounds.SoundGains, Bounds.susBit, Context.memberOf, Context.onComma, Context.startGroup, Effect.taking, Effect.within, Interval.intervalOf, Interval.intervalsBy}
+use Rattle.expression.specs.Bounds.{Sound}
+use Rattle.step.specs.{Bounds.Small, Bounds.SoundGains, Bounds.susBit, Context.memberOf, Context.onComma, Context.startGroup, Effect.taking, Effect.within, Interval.intervalOf, Interval.intervalsBy}
 use Rattle.lookahead.specs.Next.{isEnd, isMaj7, isNumber, isSign, noteFrom, numberIn, signIn}
 use Rattle.step.specs.Step.{addInterval, addSigned, addTarget, insideOf, intervalAlone, isPower, thenEnd, modifierStep, noteStep, omitTarget, placed, sixNine, stepOf, susAllows}
 use Rattle.step.specs.declared.context.Context.the-variants as context

@@ -1,13 +1,8 @@
 -- Bookkeeping of contracts between our own functions; no promise of an entry point rests on it.
 -- Bounds of an effect: how much it does at most, and which expressions it may gain. Contracts and laws of the later layers use them.
-use mathlib.Core.Bool.{false}
-use mathlib.Core.Path.{_≡_}
-use Prim.Native.Nat.{ℕ, _+_, _≤_, _<_}
-use lib.Dec.{eqb}
+use Prim.Native.Nat.{ℕ, _+_, _≤_}
 use lib.Signed.{mag}
-use Rattle.intervals.specs.Interval.{augmentedFourth}
-use Rattle.expression.specs.declared.expression.Exp.the-variants.{Power, Bass, Maj, Maj7, Minor, HalfDim, Dim, Dim7, Alt, Aug, Sus, Extension, Add, Omit, SlashBass}
-use Rattle.expression.specs.declared.expression.Exp.{Exp}
+use Rattle.expression.specs.Bounds.{Sound}
 use Rattle.step.specs.declared.context.Context.the-variants as context
 use Rattle.step.specs.declared.context.Context.{Context}
 use Rattle.step.specs.declared.effect.Effect.{Effect}
@@ -33,25 +28,7 @@ pub record Small (h : Here) (e : Effect) : Type 0 where
   pub counted : mag (e .count) ≤ mag (h .count) + 1
   pub taken : e .taken ≤ 2
 
--- an interval is below 23, and no extension is #4
-abbrev pub Sound : Exp → Type 0
-Sound Power = Unit
-Sound Bass = Unit
-Sound Maj = Unit
-Sound Maj7 = Unit
-Sound Minor = Unit
-Sound HalfDim = Unit
-Sound Dim = Unit
-Sound Dim7 = Unit
-Sound Alt = Unit
-Sound Aug = Unit
-Sound (Sus i) = i < 23
-Sound (Extension i p) = (i < 23) × (eqb i augmentedFourth ≡ false)
-Sound (Add i p) = i < 23
-Sound (Omit i p) = i < 23
-Sound (SlashBass n) = Unit
-
--- and so of each expression that is gained
+-- each expression that is gained has its interval in the table
 abbrev pub SoundGains : Gains → Type 0
 SoundGains gains.None = Unit
 SoundGains (gains.One e) = Sound e

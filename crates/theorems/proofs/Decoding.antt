@@ -23,7 +23,7 @@ use Rattle.note.specs.declared.RootModifier.{RootModifier}
 use Rattle.display.specs.Display.{chosen, displayOf, order, shown}
 use Rattle.house_parts.proofs.Bools.{and-left, and-right}
 use Rattle.house_parts.specs.House.{displayBy, kindIn, susBy}
-use Rattle.house_parts.proofs.Low.{Low}
+use Rattle.house_text.proofs.Low.{Low}
 use Rattle.house_parts.specs.declared.kind.SusKind.the-variants.{Plain, Flat2, Second, Sharp4}
 use Rattle.house_parts.specs.declared.kind.SusKind.{SusKind}
 use Rattle.nophtris.proofs.Bytes.{chord-length, padded, set-at, set-length}

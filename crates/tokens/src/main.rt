@@ -7,7 +7,7 @@ use lines::Input;
 
 // Appends a number, right-justified in four columns.
 fn put_number(out: &mut [u8], used: usize, n: u64) -> usize {
-    lines::put_number(out, used, n, 4)
+    output::put_number(out, used, n, 4)
 }
 
 // Appends the four numbers of a token: a note's type is 0 and an extension's 7, and these two carry a number.
@@ -72,10 +72,10 @@ fn answer(out: &mut [u8], used: usize, line: &[u8], s: Input) -> usize
         return used;
     }
     let len = s.len;
-    let u = lines::room(out, used, 32768);
+    let u = output::room(out, used, 32768);
     let v = put_number(out, u, s.lines);
     let w = put_answer(out, v, &line[..len]);
-    lines::put(out, w, b'\n')
+    output::put(out, w, b'\n')
 }
 
 // Answers every line of standard input.
@@ -86,7 +86,7 @@ fn answer_all(out: &mut [u8], line: &mut [u8], block: &mut [u8]) {
         s = lines::next(block, line, s);
         used = answer(out, used, line, s);
     }
-    lines::flush(out, used);
+    output::flush(out, used);
 }
 
 fn main() {

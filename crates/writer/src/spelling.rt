@@ -3,7 +3,7 @@ ghost use mathlib.Core.List.{[], _∷_};
 ghost use mathlib.Core.Path.{_≡_};
 ghost use Prim.Native.Nat.{_+_, _<_, _≤_};
 ghost use lib.ListN.{length, getD};
-ghost use Rattle.house_text.specs.Spelling.{letterText, noteText, spell};
+ghost use Rattle.house_text.specs.Spelling.{letterText, noteText, signText, spell};
 ghost use Rattle.intervals.specs.Stored.{members};
 ghost use Rattle.writer.specs.State.{Put, Tables, textAt, partText, written23, bassText};
 use house_parts::kind::SusKind;
@@ -90,6 +90,18 @@ fn letter(l: NoteLiteral) -> u8
     }
 }
 
+// The sign of a note, of which a natural letter has none.
+fn put_sign(buffer: &mut [u8], n: usize, sign: RootModifier) -> usize
+    requires { ⌜ n + length (signText sign) ≤ length (now buffer) ⌝ }
+    ensures { λ r. ⌜ Put n r (signText sign) (now (buffer .entry)) (now (buffer .exit)) ⌝ }
+{
+    match sign {
+        RootModifier::Natural => n,
+        RootModifier::Sharp => put(buffer, n, b'#'),
+        RootModifier::Flat => put(buffer, n, b'b'),
+    }
+}
+
 // A note's letter, and its sign if it has one.
 fn put_note(buffer: &mut [u8], n: usize, note: Note) -> usize
     requires { ⌜ n + length (noteText note) ≤ length (now buffer) ⌝ }
@@ -98,11 +110,7 @@ fn put_note(buffer: &mut [u8], n: usize, note: Note) -> usize
     let l = note.literal;
     let m = put(buffer, n, letter(l));
     let sign = note.modifier;
-    match sign {
-        RootModifier::Natural => m,
-        RootModifier::Sharp => put(buffer, m, b'#'),
-        RootModifier::Flat => put(buffer, m, b'b'),
-    }
+    put_sign(buffer, m, sign)
 }
 
 // The byte j of the i-th text.

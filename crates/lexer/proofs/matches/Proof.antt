@@ -1,7 +1,6 @@
 -- The invariant: the word stands there if its letters from j on stand behind the j that were compared.
 -- Assumes nothing.
 use mathlib.Core.Bool.{Bool, _&&_}
-use mathlib.Core.List.{[]}
 use mathlib.Core.Path.{_≡_, sym, ap, _∙_}
 use Prim.Native.Nat.{ℕ, _+_, _-_, _≤_, _<_}
 use native.Mathlib.Omega.{arith}
@@ -11,7 +10,7 @@ use borrow.Author.Tests.{eq-eqb, ne-eqb}
 use Rattle.utf8.specs.Utf8.{begins}
 use Rattle.lexer.specs.State.{wordAt}
 use Rattle.lexer.specs.Words.{words}
-use Rattle.lexer.proofs.Words.{word-fits, letter-is, begins-short, begins-turn, begins-all}
+use Rattle.lexer.proofs.Words.{word-fits, begins-short, begins-turn, begins-all}
 use Rattle.lexer.proofs.matches.Statement.{statement}
 use Rattle.lexer.proofs.matches.Tie as tie
 
@@ -43,7 +42,9 @@ shared-slice-read-if2 : tie.Need-shared-slice-read-if2 Inv-loop μ-loop
 shared-slice-read-if2 c = search needs
 
 letter-requires : tie.Need-letter-requires Inv-loop μ-loop
-letter-requires c κs = (c .before .before .before .before .before .pre .1, omega (arith, word-fits (c .before .before .before .before .before .args .i) (c .before .before .before .before .before .pre .1), c .before .before .before .before .before .pre .2))
+letter-requires c κs =
+    let p = c .before .before .before .before .before .pre in
+    (p .0, p .1, omega (arith, p .2))
 
 returns-2 : tie.Need-returns-2 Inv-loop μ-loop
 returns-2 c =
@@ -52,10 +53,7 @@ returns-2 c =
     let j = c .before .before .before .before .before .loop .j in
     let inv = c .before .before .before .before .before .loop .inv in
     let hj : j < length w = omega (arith, c .before .before .before .before .before .before .before .pre .2) in
-    let l : c .before .letter .result ≡ getD w j 0 =
-    c .before .letter .ensures ∙ ap (λ t. getD (getD t (a .i) []) j 0) (c .before .before .before .before .before .before .before .pre .0)
-    ∙ letter-is (a .i) (c .before .before .before .before .before .before .before .pre .1) j hj in
-    let e = ne-eqb (getD w j 0) (getD (a .text .now) (a .at + j) 0) (λ e. c .if2 .taken (sym e ∙ sym l)) in
+    let e = ne-eqb (getD w j 0) (getD (a .text .now) (a .at + j) 0) (λ e. c .if2 .taken (sym e ∙ sym (c .before .letter .ensures))) in
     sym (inv .1 ∙ begins-turn w (a .text .now) j (a .at + j) hj (c .before .before .before .if1 .left) ∙ ap (λ (b : Bool). b && begins (drop (j + 1) w) (drop (a .at + j + 1) (a .text .now))) e)
 
 add-j : tie.Need-add-j Inv-loop μ-loop
@@ -71,10 +69,7 @@ loop-again c =
     let j = c .before .before .before .before .before .loop .j in
     let inv = c .before .before .before .before .before .loop .inv in
     let hj : j < length w = omega (arith, c .before .before .before .before .before .before .before .pre .2) in
-    let l : c .before .letter .result ≡ getD w j 0 =
-    c .before .letter .ensures ∙ ap (λ t. getD (getD t (a .i) []) j 0) (c .before .before .before .before .before .before .before .pre .0)
-    ∙ letter-is (a .i) (c .before .before .before .before .before .before .before .pre .1) j hj in
-    let e = eq-eqb (getD w j 0) (getD (a .text .now) (a .at + j) 0) (sym l ∙ sym (c .if2 .left)) in
+    let e = eq-eqb (getD w j 0) (getD (a .text .now) (a .at + j) 0) (sym (c .before .letter .ensures) ∙ sym (c .if2 .left)) in
     let m : a .at + j + 1 ≡ a .at + (j + 1) = omega arith in (
       omega arith,
       inv .1 ∙ begins-turn w (a .text .now) j (a .at + j) hj (c .before .before .before .if1 .left)

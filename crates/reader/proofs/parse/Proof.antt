@@ -5,7 +5,7 @@ use Rattle.parser.specs.Parser.{parseOf, rootOf}
 use Rattle.reader.proofs.Judge.{as-is, counted, gave-errors, gave-none, sounds-all, untouched}
 use Rattle.reader.proofs.parse.Statement.{statement}
 use Rattle.reader.specs.Reader.{countOf, numberOf, validated}
-use Rattle.step.specs.Bounds.{Sound}
+use Rattle.expression.specs.Bounds.{Sound}
 use Rattle.token.specs.Token.{rows}
 use borrow.Author.Needs.{needs}
 use lib.ListN.{length-take, take}

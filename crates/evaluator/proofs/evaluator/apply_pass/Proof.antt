@@ -1,4 +1,5 @@
 -- The invariant: the rest, from the set so far, gives what all of them give.
+-- Assumes nothing.
 use Prim.Native.Nat.{_+_, _-_, _≤_, suc}
 use Rattle.intervals.specs.Stored.{members}
 use Rattle.evaluator.proofs.Walks.{from, from-none, walk-turn}

@@ -4,7 +4,7 @@ use mathlib.Core.List.{[], _∷_}
 use mathlib.Core.Path.{refl, subst}
 use borrow.Author.Needs.{needs}
 use Rattle.intervals.specs.Stored.{members}
-use Rattle.step.specs.Bounds.{Sound}
+use Rattle.expression.specs.Bounds.{Sound}
 use Rattle.evaluator.specs.Evaluator.{addBy}
 use Rattle.evaluator.proofs.Rest.{rest}
 use Rattle.evaluator.proofs.stages.add_by.Statement.{statement}

@@ -113,87 +113,55 @@ row-of-requires-18 : tie.Need-row-of-requires-18
 row-of-requires-18 c κs = search needs
 
 returns : tie.Need-returns
-returns c =
-    let e = c .before .before .e .given .1 in
-    search e
+returns c = search (c .before .before .e .given .1)
 
 returns-2 : tie.Need-returns-2
-returns-2 c =
-    let e = c .before .before .e2 .given .1 in
-    search e
+returns-2 c = search (c .before .before .e2 .given .1)
 
 returns-3 : tie.Need-returns-3
-returns-3 c =
-    let e = c .before .before .e3 .given .1 in
-    search e
+returns-3 c = search (c .before .before .e3 .given .1)
 
 returns-4 : tie.Need-returns-4
-returns-4 c =
-    let e = c .before .before .e4 .given .1 in
-    search e
+returns-4 c = search (c .before .before .e4 .given .1)
 
 returns-5 : tie.Need-returns-5
-returns-5 c =
-    let e = c .before .before .e5 .given .1 in
-    search e
+returns-5 c = search (c .before .before .e5 .given .1)
 
 returns-6 : tie.Need-returns-6
-returns-6 c =
-    let e = c .before .before .e6 .given .1 in
-    search e
+returns-6 c = search (c .before .before .e6 .given .1)
 
 returns-7 : tie.Need-returns-7
-returns-7 c =
-    let e = c .before .before .e7 .given .1 in
-    search e
+returns-7 c = search (c .before .before .e7 .given .1)
 
 returns-8 : tie.Need-returns-8
-returns-8 c =
-    let e = c .before .before .e8 .given .1 in
-    search e
+returns-8 c = search (c .before .before .e8 .given .1)
 
 returns-9 : tie.Need-returns-9
 returns-9 c = search (c .before .enum-told .given .1)
 
 returns-10 : tie.Need-returns-10
-returns-10 c =
-    let e = c .before .before .e9 .given .1 in
-    search e
+returns-10 c = search (c .before .before .e9 .given .1)
 
 returns-11 : tie.Need-returns-11
-returns-11 c =
-    let e = c .before .before .e10 .given .1 in
-    search e
+returns-11 c = search (c .before .before .e10 .given .1)
 
 returns-12 : tie.Need-returns-12
-returns-12 c =
-    let e = c .before .before .e11 .given .1 in
-    search e
+returns-12 c = search (c .before .before .e11 .given .1)
 
 returns-13 : tie.Need-returns-13
-returns-13 c =
-    let e = c .before .before .e12 .given .1 in
-    search e
+returns-13 c = search (c .before .before .e12 .given .1)
 
 returns-14 : tie.Need-returns-14
-returns-14 c =
-    let e = c .before .before .e13 .given .1 in
-    search e
+returns-14 c = search (c .before .before .e13 .given .1)
 
 returns-15 : tie.Need-returns-15
-returns-15 c =
-    let e = c .before .before .e14 .given .1 in
-    search e
+returns-15 c = search (c .before .before .e14 .given .1)
 
 returns-16 : tie.Need-returns-16
-returns-16 c =
-    let e = c .before .before .e15 .given .1 in
-    search e
+returns-16 c = search (c .before .before .e15 .given .1)
 
 returns-17 : tie.Need-returns-17
-returns-17 c =
-    let e = c .before .before .e16 .given .1 in
-    search e
+returns-17 c = search (c .before .before .e16 .given .1)
 
 returns-18 : tie.Need-returns-18
 returns-18 c = search (c .before .enum-told2 .given .1)
