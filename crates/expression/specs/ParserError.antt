@@ -1,7 +1,7 @@
 -- The four numbers of an error. "Each error is four numbers: its kind, then its values, then zeros. Kinds are 1 to 18 in the order of
 -- `ParserError`. .. Kind 3 carries the `priority` of the repeated expression, kind 4 an interval number, kind 10 three interval numbers,
 -- kinds 11 and 12 a position and a length, kind 9 nothing. Kinds 13 and 18 keep their numbers and never occur."
-use mathlib.Core.List.{List, [], _∷_}
+use mathlib.Core.List.{List, [], _∷_, _++_}
 use Prim.Native.Nat.{ℕ}
 use Rattle.expression.specs.declared.parser_error.ParserError.the-variants.{IllegalToken, UnexpectedNote, DuplicateModifier, InconsistentExtension, DuplicateExtension, InvalidExtension, WrongExpressionTarget, UnexpectedModifier, MissingRootNote, ThreeConsecutiveSemitones, MissingAddTarget, IllegalOrMissingOmitTarget, IllegalAddTarget, IllegalSlashNotation, UnexpectedClosingParenthesis, MissingClosingParenthesis, NestedParenthesis, InvalidPowerExpression}
 use Rattle.expression.specs.declared.parser_error.ParserError.{ParserError}
@@ -35,3 +35,8 @@ numbers r = r .kind ∷ r .a ∷ r .b ∷ r .c ∷ []
 
 abbrev pub numbersOf : ParserError → List ℕ
 numbersOf e = numbers (rowOf e)
+
+-- those of a list of errors, one error after the other
+abbrev pub allNumbers : List ParserError → List ℕ
+allNumbers [] = []
+allNumbers (e ∷ es) = numbersOf e ++ allNumbers es

@@ -11,7 +11,6 @@ use lib.Dec.{T, eqb, leb, leb→le}
 use borrow.Author.Tests.{le-ltb}
 use Rattle.intervals.specs.Interval.{elem, Set, empty, insert, semitones}
 use Rattle.note.specs.declared.OptionalNote.{OptionalNote}
-use Rattle.expression.specs.ParserError.{numbersOf}
 use Rattle.expression.specs.declared.expression.Exp.the-variants.{Power, Bass, Maj, Maj7, Minor, HalfDim, Dim, Dim7, Alt, Aug, Sus, Extension, Add, Omit, SlashBass}
 use Rattle.expression.specs.declared.expression.Exp.{Exp}
 use Rattle.expression.specs.declared.parser_error.ParserError.the-variants.{DuplicateModifier, DuplicateExtension, InvalidExtension}
@@ -115,8 +114,8 @@ less-fault s r w Aug t = refl
 less-fault s r w (Sus x) t = refl
 less-fault s r w (Extension x p) t = go (elem x badExtensions) (s (semitones x)) (r (semitones x)) (w (semitones x)) t
   where
-    go : (bad a b : Bool) → (T a → T b) → T (isNil (cond bad (numbersOf (InvalidExtension p)) (only b (DuplicateExtension p))))
-        → cond bad (numbersOf (InvalidExtension p)) (only a (DuplicateExtension p)) ≡ []
+    go : (bad a b : Bool) → (T a → T b) → T (isNil (cond bad (InvalidExtension p ∷ []) (only b (DuplicateExtension p))))
+        → cond bad (InvalidExtension p ∷ []) (only a (DuplicateExtension p)) ≡ []
     go true a b f u = absurd u
     go false false b f u = refl
     go false true true f u = absurd u

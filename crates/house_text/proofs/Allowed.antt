@@ -10,25 +10,26 @@ use Rattle.intervals.specs.Interval.{elem}
 use Rattle.expression.specs.declared.expression.Exp.the-variants.{Power, Bass, Maj, Maj7, Minor, HalfDim, Dim, Dim7, Alt, Aug, Sus, Extension, Add, Omit, SlashBass}
 use Rattle.expression.specs.declared.expression.Exp.{Exp}
 use Rattle.expression.specs.declared.parser_error.ParserError.the-variants.{WrongExpressionTarget}
+use Rattle.expression.specs.declared.parser_error.ParserError.{ParserError}
 use Rattle.expression.specs.Bounds.{Sound}
 use Rattle.validator.specs.Validator.{addTargets, firstWrong, isNil, omitTargets, only, orElse, wrongOf}
 use Rattle.house_parts.proofs.Bools.{both-pass}
 use Rattle.house_text.proofs.Struct.{allowed, allows}
 
 -- a list that passes the test has nothing
-pub nil : (l : List ℕ) → T (isNil l) → l ≡ []
+pub nil : (l : List ParserError) → T (isNil l) → l ≡ []
 nil [] t = refl
 nil (x ∷ l) t = absurd t
 
 -- no error, so the target is right
 target-right : (b : Bool) (p : ℕ) → only (not b) (WrongExpressionTarget p) ≡ [] → T b
 target-right true p e = tt
-target-right false p e = absurd (subst (λ (l : List ℕ). T (isNil l)) (sym e) tt)
+target-right false p e = absurd (subst (λ (l : List ParserError). T (isNil l)) (sym e) tt)
 
 -- nothing was found, neither first nor later
-none-of : (a r : List ℕ) → orElse a r ≡ [] → (a ≡ []) × (r ≡ [])
+none-of : (a r : List ParserError) → orElse a r ≡ [] → (a ≡ []) × (r ≡ [])
 none-of [] r e = (refl, e)
-none-of (x ∷ a) r e = absurd (subst (λ (l : List ℕ). T (isNil l)) (sym e) tt)
+none-of (x ∷ a) r e = absurd (subst (λ (l : List ParserError). T (isNil l)) (sym e) tt)
 
 -- a sound expression without a wrong target is allowed
 pub allows-of : (e : Exp) → Sound e → wrongOf e ≡ [] → T (allows e)

@@ -19,7 +19,8 @@ use Rattle.house_parts.specs.declared.kind.SusKind.{SusKind}
 use Rattle.lexer.specs.Lexer.{headOf, isDigit, isLetter, lex, signOf}
 use Rattle.lexer.specs.Text.{ascii}
 use Rattle.lexer.specs.Words.{longestOf, words}
-use Rattle.parser.specs.Parser.{Parsing, lastSix, nextAt, walk}
+use Rattle.expression.specs.declared.parser_error.ParserError.{ParserError}
+use Rattle.parser.specs.Parser.{Parsing, itself, lastSix, nextAt, walk}
 use Rattle.step.specs.declared.context.Context.the-variants as context
 use Rattle.token.specs.Token.{Token, typeOf}
 use Rattle.utf8.specs.Utf8.{bits, charOf, encode, isScalar}
@@ -76,7 +77,7 @@ abbrev pub Apart : ℕ → List ℕ → List ℕ → Type 0
 Apart q t r = lex 0 [] q (t ++ r) ≡ lex 0 [] q t ++ lex 0 [] (after t q) r
 
 -- what has been found at a border: expressions only
-abbrev pub found : List Exp → Parsing
+abbrev pub found : List Exp → Parsing ParserError
 found xs = record { skip = 0; count = pos 0; context = context.None; errs = []; exps = xs }
 
 -- the tokens of a text that begins at q, before folding
@@ -141,7 +142,7 @@ pub record Good (t : List ℕ) (e : ℕ → Exp) : Type 0 where
   pub no-dim : (q : ℕ) → count dim (toks q t) ≡ 0
   pub no-maj : (q : ℕ) → count maj (toks q t) ≡ 0
   pub unsigned : (q : ℕ) (z : List Token) → Unsigned (toks q t ++ z)
-  pub parsed : (q : ℕ) (xs : List Exp) (z : List Token) → walk [] (found xs) (toks q t ++ z) ≡ walk [] (found (xs ++ (e q ∷ []))) z
+  pub parsed : (q : ℕ) (xs : List Exp) (z : List Token) → walk itself [] (found xs) (toks q t ++ z) ≡ walk itself [] (found (xs ++ (e q ∷ []))) z
 
 -- all pieces are good
 abbrev pub Goods : List Piece → Type 0
@@ -149,12 +150,12 @@ Goods [] = Unit {0}
 Goods (piece c t e i f ∷ gs) = Good t (λ q. e (f q)) × Goods gs
 
 -- the comma gains nothing
-once : (xs : List Exp) (e : Exp) (z : List Token) → walk [] (found ((xs ++ []) ++ (e ∷ []))) z ≡ walk [] (found (xs ++ (e ∷ []))) z
-once xs e z = ap (λ (l : List Exp). walk [] (found (l ++ (e ∷ []))) z) (append-nil xs)
+once : (xs : List Exp) (e : Exp) (z : List Token) → walk itself [] (found ((xs ++ []) ++ (e ∷ []))) z ≡ walk itself [] (found (xs ++ (e ∷ []))) z
+once xs e z = ap (λ (l : List Exp). walk itself [] (found (l ++ (e ∷ []))) z) (append-nil xs)
 
 -- nor does Sus itself
-twice : (xs : List Exp) (e : Exp) (z : List Token) → walk [] (found (((xs ++ []) ++ []) ++ (e ∷ []))) z ≡ walk [] (found (xs ++ (e ∷ []))) z
-twice xs e z = ap (λ (l : List Exp). walk [] (found (l ++ (e ∷ []))) z) (append-nil (xs ++ []) ∙ append-nil xs)
+twice : (xs : List Exp) (e : Exp) (z : List Token) → walk itself [] (found (((xs ++ []) ++ []) ++ (e ∷ []))) z ≡ walk itself [] (found (xs ++ (e ∷ []))) z
+twice xs e z = ap (λ (l : List Exp). walk itself [] (found (l ++ (e ∷ []))) z) (append-nil (xs ++ []) ∙ append-nil xs)
 
 -- one after the other, without brackets
 infixr 5 _and_

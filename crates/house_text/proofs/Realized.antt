@@ -65,14 +65,14 @@ passed-all t (accept h u p v) e = (p, v, refl)
 
 -- ---- what validation says of the set is carried over
 
-cons-nil : {x : ℕ} {l : List ℕ} → x ∷ l ≡ [] → {X : Type 0} → X
+cons-nil : {x : ParserError} {l : List ParserError} → x ∷ l ≡ [] → {X : Type 0} → X
 cons-nil e = let z = ap length e in absurd (omega (arith, z))
 
-none-both : (a b : List ℕ) → a ++ b ≡ [] → (a ≡ []) × (b ≡ [])
+none-both : (a b : List ParserError) → a ++ b ≡ [] → (a ≡ []) × (b ≡ [])
 none-both [] b e = (refl, e)
 none-both (x ∷ a) b e = cons-nil e
 
-none-else : (a r : List ℕ) → orElse a r ≡ [] → (a ≡ []) × (r ≡ [])
+none-else : (a r : List ParserError) → orElse a r ≡ [] → (a ≡ []) × (r ≡ [])
 none-else [] r e = (refl, e)
 none-else (x ∷ a) r e = cons-nil e
 
@@ -81,7 +81,7 @@ pub record SetValid (s : Set) : Type 0 where
   pub conflicts : allFrom (conflictAt s) 8 0 ≡ []
   pub semitones : semitoneErrors s ≡ []
 
-nil-passes : (l : List ℕ) → l ≡ [] → T (isNil l)
+nil-passes : (l : List ParserError) → l ≡ [] → T (isNil l)
 nil-passes [] e = tt
 nil-passes (x ∷ l) e = cons-nil e
 
@@ -109,7 +109,7 @@ unfolding validationOf
 all-valid l s w r f v = λ i. orElse (w i) (r i) ++ (orElse (f i) (v .conflicts i) ++ v .semitones i)
 
 -- no two thirds: the first row of INCOMPAT_SET
-unlit : (a b : Bool) (e : ParserError) (r : List ℕ) → only (a && b) e ++ r ≡ [] → T (not (b && a))
+unlit : (a b : Bool) (e : ParserError) (r : List ParserError) → only (a && b) e ++ r ≡ [] → T (not (b && a))
 unlit true true e r h = cons-nil h
 unlit true false e r h = tt
 unlit false true e r h = tt

@@ -28,7 +28,8 @@ use Rattle.house_parts.specs.declared.kind.SusKind.{SusKind}
 use Rattle.lexer.specs.Lexer.{endOf, headOf, isDigit, isLetter, lex, signOf, tokensOf}
 use Rattle.lexer.specs.Text.{ascii}
 use Rattle.lexer.specs.Words.{longestOf, words}
-use Rattle.parser.specs.Parser.{Parsing, lastSix, nextAt, parseOf, rootOf, walk}
+use Rattle.expression.specs.declared.parser_error.ParserError.{ParserError}
+use Rattle.parser.specs.Parser.{Parsing, itself, lastSix, nextAt, parseOf, rootOf, walk}
 use Rattle.step.specs.declared.context.Context.the-variants as context
 use Rattle.token.specs.Token.{Token, typeNumber, token, typeOf}
 use Rattle.token.specs.declared.TokenType.the-variants.{Eof}
@@ -97,7 +98,7 @@ unsigned-pieces (piece true t e i f ∷ gs) o q z h = o .0 .unsigned q _
 unsigned-pieces (piece false t e i f ∷ gs) o q z h = unsigned-pieces gs (o .1) _ z h
 
 -- each piece that stands gives its expression
-parse-pieces : (gs : List Piece) → Goods gs → (q : ℕ) (z : List Token) (zs : List Exp) → ((xs : List Exp) → walk [] (found xs) z ≡ found (xs ++ zs)) → (xs : List Exp) → walk [] (found xs) (toksOf gs q z) ≡ found (xs ++ expsOf gs q zs)
+parse-pieces : (gs : List Piece) → Goods gs → (q : ℕ) (z : List Token) (zs : List Exp) → ((xs : List Exp) → walk itself [] (found xs) z ≡ found (xs ++ zs)) → (xs : List Exp) → walk itself [] (found xs) (toksOf gs q z) ≡ found (xs ++ expsOf gs q zs)
 parse-pieces [] o q z zs h xs = h xs
 parse-pieces (piece true t e i f ∷ gs) o q z zs h xs =
     o .0 .parsed q xs _
@@ -156,11 +157,11 @@ record Head (a : RootModifier) (f : Form) (l : NoteLiteral) : Type 0 where
   no-dim : count dim (headToks l a f) ≡ 0
   no-maj : count maj (headToks l a f) ≡ 0
   rooted : (z : List Token) → Unsigned z → rootOf (headToks l a f ++ z) ≡ Some (record { literal = l; modifier = a })
-  parses : (z : List Token) → Unsigned z → parseOf (headToks l a f ++ z) ≡ walk [] (found (formExps f)) z
+  parses : (z : List Token) → Unsigned z → parseOf (headToks l a f ++ z) ≡ walk itself [] (found (formExps f)) z
 
 -- with no sign behind it the root takes no token more
-unmarked : (z : List Token) → isSign (nextAt z 0) ≡ false → walk [] (record { skip = cond (isSign (nextAt z 0)) 1 0; count = pos 0; context = context.None; errs = []; exps = [] }) z ≡ walk [] (found []) z
-unmarked z h = ap (λ (b : Bool). walk [] (record { skip = cond b 1 0; count = pos 0; context = context.None; errs = []; exps = [] }) z) h
+unmarked : (z : List Token) → isSign (nextAt z 0) ≡ false → walk itself [] (record { skip = cond (isSign (nextAt z 0)) 1 0; count = pos 0; context = context.None; errs = []; exps = [] }) z ≡ walk itself [] (found []) z
+unmarked z h = ap (λ (b : Bool). walk itself [] (record { skip = cond b 1 0; count = pos 0; context = context.None; errs = []; exps = [] }) z) h
 
 -- a head is as asked with each letter, if the rows of what is asked are equal
 heads : (a : RootModifier) (f : Form) → row (λ l. after (headText l a f) 0) ≡ row (λ l. headEnd a f)
@@ -168,7 +169,7 @@ heads : (a : RootModifier) (f : Form) → row (λ l. after (headText l a f) 0) �
     → row (λ l. count dim (headToks l a f)) ≡ row (λ l. 0)
     → row (λ l. count maj (headToks l a f)) ≡ row (λ l. 0)
     → ((z : List Token) → Unsigned z → row (λ l. rootOf (headToks l a f ++ z)) ≡ row (λ l. Some (record { literal = l; modifier = a })))
-    → ((z : List Token) → Unsigned z → row (λ l. parseOf (headToks l a f ++ z)) ≡ row (λ l. walk [] (found (formExps f)) z))
+    → ((z : List Token) → Unsigned z → row (λ l. parseOf (headToks l a f ++ z)) ≡ row (λ l. walk itself [] (found (formExps f)) z))
     → (l : NoteLiteral)
     → Head a f l
 heads a f g e d m r p l = record {
@@ -177,7 +178,7 @@ heads a f g e d m r p l = record {
   no-dim = by-letter (λ l. count dim (headToks l a f)) (λ l. 0) d l;
   no-maj = by-letter (λ l. count maj (headToks l a f)) (λ l. 0) m l;
   rooted = λ z h. by-letter (λ l. rootOf (headToks l a f ++ z)) (λ l. Some (record { literal = l; modifier = a })) (r z h) l;
-  parses = λ z h. by-letter (λ l. parseOf (headToks l a f ++ z)) (λ l. walk [] (found (formExps f)) z) (p z h) l;
+  parses = λ z h. by-letter (λ l. parseOf (headToks l a f ++ z)) (λ l. walk itself [] (found (formExps f)) z) (p z h) l;
 }
 
 -- each head is as asked; where the letter is the last of it, what follows is no sign
@@ -186,7 +187,7 @@ unfolding headOf isDigit isLetter lex signOf longestOf words concat count foldOn
 head Natural plain =
     heads Natural plain refl refl refl refl
     (λ z h. ap (λ (m : RootModifier). row (λ l. Some (record { literal = l; modifier = m }))) (h .1))
-    (λ z h. ap (λ (s : Parsing). row (λ l. s)) (unmarked z (h .0)))
+    (λ z h. ap (λ (s : Parsing ParserError). row (λ l. s)) (unmarked z (h .0)))
 head Natural minor = heads Natural minor refl refl refl refl (λ z h. refl) (λ z h. refl)
 head Natural diminished = heads Natural diminished refl refl refl refl (λ z h. refl) (λ z h. refl)
 head Sharp plain = heads Sharp plain refl refl refl refl (λ z h. refl) (λ z h. refl)
@@ -242,7 +243,7 @@ record Closing (b : OptionalNote) (q e : ℕ) : Type 0 where
   no-dim : count dim (closing b q e) ≡ 0
   no-maj : count maj (closing b q e) ≡ 0
   unsigned : Unsigned (closing b q e)
-  parses : (xs : List Exp) → walk [] (found xs) (closing b q e) ≡ found (xs ++ bassExps b)
+  parses : (xs : List Exp) → walk itself [] (found xs) (closing b q e) ≡ found (xs ++ bassExps b)
 
 -- a note that is the bass
 abbrev noted : RootModifier → NoteLiteral → OptionalNote
@@ -253,7 +254,7 @@ overs : (q e : ℕ) (a : RootModifier) → row (λ l. count dim (closing (noted 
     → row (λ l. count maj (closing (noted a l) q e)) ≡ row (λ l. 0)
     → row (λ l. isSign (nextAt (closing (noted a l) q e) 0)) ≡ row (λ l. false)
     → row (λ l. signIn (nextAt (closing (noted a l) q e) 0)) ≡ row (λ l. Natural)
-    → ((xs : List Exp) → row (λ l. walk [] (found xs) (closing (noted a l) q e)) ≡ row (λ l. found ((xs ++ bassExps (noted a l)) ++ [])))
+    → ((xs : List Exp) → row (λ l. walk itself [] (found xs) (closing (noted a l) q e)) ≡ row (λ l. found ((xs ++ bassExps (noted a l)) ++ [])))
     → (l : NoteLiteral)
     → Closing (noted a l) q e
 overs q e a d m s t p l = record {
@@ -263,7 +264,7 @@ overs q e a d m s t p l = record {
     by-letter (λ l. isSign (nextAt (closing (noted a l) q e) 0)) (λ l. false) s l,
     by-letter (λ l. signIn (nextAt (closing (noted a l) q e) 0)) (λ l. Natural) t l,
   );
-  parses = λ xs. by-letter (λ l. walk [] (found xs) (closing (noted a l) q e)) (λ l. found ((xs ++ bassExps (noted a l)) ++ [])) (p xs) l
+  parses = λ xs. by-letter (λ l. walk itself [] (found xs) (closing (noted a l) q e)) (λ l. found ((xs ++ bassExps (noted a l)) ++ [])) (p xs) l
       ∙ ap found (append-nil (xs ++ bassExps (noted a l)));
 }
 
@@ -365,8 +366,8 @@ pub text-lemma : (root : Note) (bass : OptionalNote) (n : Set) (k : SusKind) →
     × (parseOf (preProcess (tokensOf (spell root bass n k))) .exps ≡ spellExps (places root n k) bass n k)
     × (rootOf (preProcess (tokensOf (spell root bass n k))) ≡ Some root)
 text-lemma root bass n k = (
-  ap (λ (s : Parsing). s .errs) (all-found root bass n k),
-  ap (λ (s : Parsing). s .exps) (all-found root bass n k),
+  ap (λ (s : Parsing ParserError). s .errs) (all-found root bass n k),
+  ap (λ (s : Parsing ParserError). s .exps) (all-found root bass n k),
   ap (λ (s : List ℕ). rootOf (preProcess (tokensOf s))) (spelled root bass n k)
       ∙ root-read (root .literal) (root .modifier) (formOf n) (pieces n k) (goods n k) bass,
 )

@@ -2,6 +2,7 @@
 use mathlib.Core.List.{List, [], _∷_}
 use mathlib.Core.Path.{_≡_, refl}
 use Prim.Native.Nat.{ℕ}
+use Rattle.expression.specs.ParserError.{allNumbers}
 use Rattle.expression.specs.declared.expression.Exp.the-variants.{Add, Extension, Omit}
 use Rattle.expression.specs.declared.expression.Exp.{Exp}
 use Rattle.folding.specs.Folding.{concat, count, foldOn, isMaj, join, preProcess}
@@ -13,7 +14,7 @@ use Rattle.token.specs.Token.{typeOf}
 use Rattle.utf8.specs.Utf8.{bits, charOf, encode, isScalar}
 
 abbrev errors : List ℕ → List ℕ
-errors text = parseOf (preProcess (tokensOf text)) .errs
+errors text = allNumbers (parseOf (preProcess (tokensOf text)) .errs)
 
 abbrev expressions : List ℕ → List Exp
 expressions text = parseOf (preProcess (tokensOf text)) .exps

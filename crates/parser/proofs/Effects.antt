@@ -13,6 +13,7 @@ use mir.Val.{ofZ, toZ}
 use Rattle.note.specs.declared.OptionalNote.the-variants as optional
 use Rattle.note.specs.declared.OptionalNote.{OptionalNote}
 use Rattle.note.specs.declared.RootModifier.the-variants.{Sharp, Flat}
+use Rattle.expression.specs.ParserError.{numbersOf}
 use Rattle.expression.specs.declared.expression.Exp.{Exp}
 use Rattle.step.proofs.Laws.{inside-small}
 use Rattle.step.specs.Bounds.{Small, gainsCount}
@@ -42,10 +43,10 @@ gains-length (Two e f) = refl
 abbrev after : State → Effect → ℕ → ℕ → State
 after st e n m = record { at = st .at + 1 + e .taken; count = e .count; context = e .context; errors = n; exps = m }
 
-abbrev found : Effect → List ℕ → List Exp → Parsing
+abbrev found : Effect → List ℕ → List Exp → Parsing ℕ
 found e es xs = record { skip = 0; count = e .count; context = e .context; errs = es; exps = xs }
 
-pub did-effect : (st : State) (e : Effect) {n m : ℕ} {es es′ xs xs′ : List ℕ} → Stored (st .errors) n (errorOf (e .error)) es es′ → Gained (st .exps) m (gainsOf (e .gains)) xs xs′
+pub did-effect : (st : State) (e : Effect) {n m : ℕ} {es es′ xs xs′ : List ℕ} → Stored (st .errors) n (errorOf numbersOf (e .error)) es es′ → Gained (st .exps) m (gainsOf (e .gains)) xs xs′
     → Ready st → st .at < 257 → Fits st e → EffectDone e st (after st e n m) es es′ xs xs′
 did-effect st e {n} {m} {es} {es′} {xs} {xs′} s g ready h fits =
     let k : m ≡ st .exps + gainsCount (e .gains) = rw (← gains-length (e .gains)) (g .count) in
@@ -126,7 +127,7 @@ fits-root n nx {e} h = subst (Fits start) (sym h) (by n)
     by optional.None = record { gained = omega arith; counted = omega arith; taken = omega arith }
 
 -- the state after the root: its effect takes at most one token more, adds no expression and at most one error
-pub begun : (root : OptionalNote) (nx : Next) (xs : List ℕ) {e : Effect} {n : ℕ} {es es′ : List ℕ} → e ≡ rootEffect root nx → Stored 0 n (errorOf (e .error)) es es′
+pub begun : (root : OptionalNote) (nx : Next) (xs : List ℕ) {e : Effect} {n : ℕ} {es es′ : List ℕ} → e ≡ rootEffect root nx → Stored 0 n (errorOf numbersOf (e .error)) es es′
     → EffectDone (rootEffect root nx) start (record { at = 1 + e .taken; count = toZ w16 (ofZ w16 (e .count)); context = e .context; errors = n; exps = 0 }) es es′ xs xs
 begun root nx xs {e} {n} {es} {es′} h s =
     let none : gainsOf (e .gains) ≡ [] = ap (λ (d : Effect). gainsOf (d .gains)) h ∙ no-gains root in

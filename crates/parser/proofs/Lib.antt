@@ -3,5 +3,6 @@ mod Lists
 pub mod Rows
 mod Six
 mod Effects
+mod Coded
 mod Walk
 pub mod Laws

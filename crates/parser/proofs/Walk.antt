@@ -12,6 +12,7 @@ use Rattle.note.specs.declared.OptionalNote.{OptionalNote}
 use Rattle.note.specs.declared.RootModifier.{RootModifier}
 use Rattle.lookahead.specs.Next.{noteFrom, signIn}
 use Rattle.expression.specs.Expression.{expNumber}
+use Rattle.expression.specs.ParserError.{numbersOf}
 use Rattle.step.specs.Step.{insideOf}
 use Rattle.step.specs.declared.effect.Effect.{Effect}
 use Rattle.step.specs.declared.effect.Here.{Here}
@@ -21,14 +22,15 @@ use Rattle.token.specs.Token.{Token, bracketKind, rows, typeOf}
 use Rattle.token.specs.declared.Bracket.the-variants.{Opens, Closes, Ends, Other}
 use Rattle.token.specs.declared.Bracket.{Bracket}
 use Rattle.token.specs.declared.TokenType.{TokenType}
-use Rattle.parser.specs.Parser.{Parsing, aheadOf, applied, blank, effectAt, ends, enter, leave, nextAt, opens, parseOf, rootEffect, rootOf, skipping, walk}
-use Rattle.parser.specs.State.{EffectDone, Kept, Ready, TookToken, Read, Parsed, aheadIn, bracketBy, bracketIn, effectIn, hereIn, nextIn, stackBy, start, view}
+use Rattle.parser.specs.Parser.{Parsing, aheadOf, applied, blank, effectAt, ends, enter, leave, nextAt, opens, parseBy, parseOf, rootEffect, rootOf, skipping, walk}
+use Rattle.parser.specs.State.{EffectDone, Kept, Ready, TookToken, Read, Parsed, aheadIn, bracketBy, bracketIn, effectIn, expsOf, hereIn, nextIn, stackBy, start, view}
 use Rattle.parser.specs.declared.state.State.{State}
+use Rattle.parser.proofs.Coded.{parse-errors, parse-exps}
 use Rattle.parser.proofs.Lists.{later}
 use Rattle.parser.proofs.Rows.{ahead-is, drop-none, drop-row, next-is}
 
 -- tokens that are taken already are passed over
-skips : (n : ℕ) (stk : List ℕ) (s : Parsing) (ts : List Token) → walk stk (skipping n s) ts ≡ walk stk (skipping 0 s) (drop n ts)
+skips : (n : ℕ) (stk : List ℕ) (s : Parsing ℕ) (ts : List Token) → walk numbersOf stk (skipping n s) ts ≡ walk numbersOf stk (skipping 0 s) (drop n ts)
 unfolding walk
 skips zero stk s ts = refl
 skips (suc n) stk s [] = refl
@@ -49,11 +51,11 @@ kept-then {st} {m} {r} {e₀} {e₁} {e₂} {x₀} {x₁} {x₂} a b =
 
 -- going on after an effect is going on from the state that the code has then
 pub did-walk : (T : List Token) (stk : List ℕ) {e : Effect} {st r : State} {es es′ xs xs′ : List ℕ} → EffectDone e st r es es′ xs xs′
-    → walk stk (applied e (view st es xs)) (drop (st .at + 1) T) ≡ walk stk (view r es′ xs′) (drop (r .at) T)
+    → walk numbersOf stk (applied numbersOf e (view st es xs)) (drop (st .at + 1) T) ≡ walk numbersOf stk (view r es′ xs′) (drop (r .at) T)
 did-walk T stk {e} {st} {r} {es} {es′} {xs} {xs′} d =
-    skips (e .taken) stk (applied e (view st es xs)) (drop (st .at + 1) T)
-    ∙ ap (λ (l : List Token). walk stk (skipping 0 (applied e (view st es xs))) l) (drop-drop (e .taken) (st .at + 1) T)
-    ∙ (λ i. walk stk (sym (d .same) i) (drop (sym (d .moved) i) T))
+    skips (e .taken) stk (applied numbersOf e (view st es xs)) (drop (st .at + 1) T)
+    ∙ ap (λ (l : List Token). walk numbersOf stk (skipping 0 (applied numbersOf e (view st es xs))) l) (drop-drop (e .taken) (st .at + 1) T)
+    ∙ (λ i. walk numbersOf stk (sym (d .same) i) (drop (sym (d .moved) i) T))
 
 -- the token at the end of a bracket leaves it; outside any bracket there is none to leave
 left : (inside : Bool) (q : ℕ) (b : Bracket) (stk : List ℕ) → leave b (stackBy inside q stk) ≡ cond (ends (cond inside b Other)) stk (stackBy inside q stk)
@@ -74,7 +76,7 @@ none-ends false b h n = absurd (subst IsTrue (sym h) tt)
 
 -- tokens were taken, after which the same brackets are open as before, whatever brackets are open around them
 pub record Within (ks ps ls : List ℕ) (inside : Bool) (q : ℕ) (st r : State) (es es′ xs xs′ : List ℕ) : Type 0 where
-  pub same : (stk : List ℕ) → walk (stackBy inside q stk) (view st es xs) (drop (st .at) (rows ks ps ls)) ≡ walk (stackBy inside q stk) (view r es′ xs′) (drop (r .at) (rows ks ps ls))
+  pub same : (stk : List ℕ) → walk numbersOf (stackBy inside q stk) (view st es xs) (drop (st .at) (rows ks ps ls)) ≡ walk numbersOf (stackBy inside q stk) (view r es′ xs′) (drop (r .at) (rows ks ps ls))
   pub kept : Kept st r es es′ xs xs′
   pub ready : Ready r
   pub forward : st .at ≤ r .at
@@ -85,26 +87,26 @@ module _ (ks ps ls : List ℕ) (even : length ps ≡ length ks) (flat : length l
 
   -- one token
   turned : (stk : List ℕ) (st : State) (es xs : List ℕ) → st .at < length ks
-      → walk stk (view st es xs) (drop (st .at) T)
-      ≡ walk (enter (bracketIn ks (st .at)) (getD ps (st .at) 0) (leave (bracketIn ks (st .at)) stk))
-      (applied (effectAt stk (typeOf (getD ks (st .at) 0)) (hereIn ps ls xs st) (aheadIn ks ps (st .at + 1))) (view st es xs)) (drop (st .at + 1) T)
+      → walk numbersOf stk (view st es xs) (drop (st .at) T)
+      ≡ walk numbersOf (enter (bracketIn ks (st .at)) (getD ps (st .at) 0) (leave (bracketIn ks (st .at)) stk))
+      (applied numbersOf (effectAt stk (typeOf (getD ks (st .at) 0)) (hereIn ps ls xs st) (aheadIn ks ps (st .at + 1))) (view st es xs)) (drop (st .at + 1) T)
   unfolding walk
   turned stk st es xs h =
       let m : suc (st .at) ≡ st .at + 1 = sym (add-one (st .at)) in
       let v = view st es xs in
-      ap (λ (l : List Token). walk stk v l) (drop-row ks ps ls (st .at) even flat h)
-      ∙ ap (λ (j : ℕ). walk (enter (bracketIn ks (st .at)) (getD ps (st .at) 0) (leave (bracketIn ks (st .at)) stk)) (applied (effectAt stk (typeOf (getD ks (st .at) 0)) (hereIn ps ls xs st) (aheadOf (drop j T))) v) (drop j T)) m
-      ∙ ap (λ (a : Ahead). walk (enter (bracketIn ks (st .at)) (getD ps (st .at) 0) (leave (bracketIn ks (st .at)) stk)) (applied (effectAt stk (typeOf (getD ks (st .at) 0)) (hereIn ps ls xs st) a) v) (drop (st .at + 1) T)) (ahead-is ks ps ls even flat (st .at + 1))
+      ap (λ (l : List Token). walk numbersOf stk v l) (drop-row ks ps ls (st .at) even flat h)
+      ∙ ap (λ (j : ℕ). walk numbersOf (enter (bracketIn ks (st .at)) (getD ps (st .at) 0) (leave (bracketIn ks (st .at)) stk)) (applied numbersOf (effectAt stk (typeOf (getD ks (st .at) 0)) (hereIn ps ls xs st) (aheadOf (drop j T))) v) (drop j T)) m
+      ∙ ap (λ (a : Ahead). walk numbersOf (enter (bracketIn ks (st .at)) (getD ps (st .at) 0) (leave (bracketIn ks (st .at)) stk)) (applied numbersOf (effectAt stk (typeOf (getD ks (st .at) 0)) (hereIn ps ls xs st) a) v) (drop (st .at + 1) T)) (ahead-is ks ps ls even flat (st .at + 1))
 
   -- the token at st had the effect e, which the token step decided
   module _ (b : Bracket) (q : ℕ) (st : State) (es xs : List ℕ) {e : Effect} (he : e ≡ effectIn ks ps ls xs st b q) where
     -- going on after it, with the bracket that it opens
     opened : {u : State} {es₁ xs₁ : List ℕ} (c : Bool) → opens (bracketIn ks (st .at)) ≡ c → EffectDone e st u es es₁ xs xs₁ → (stk : List ℕ)
-        → walk (enter (bracketIn ks (st .at)) (getD ps (st .at) 0) stk) (applied (effectIn ks ps ls xs st b q) (view st es xs))
+        → walk numbersOf (enter (bracketIn ks (st .at)) (getD ps (st .at) 0) stk) (applied numbersOf (effectIn ks ps ls xs st b q) (view st es xs))
         (drop (st .at + 1) T)
-        ≡ walk (cond c (getD ps (st .at) 0 ∷ stk) stk) (view u es₁ xs₁) (drop (u .at) T)
+        ≡ walk numbersOf (cond c (getD ps (st .at) 0 ∷ stk) stk) (view u es₁ xs₁) (drop (u .at) T)
     opened c o d stk =
-        (λ i. walk (cond (o i) (getD ps (st .at) 0 ∷ stk) stk) (applied (sym he i) (view st es xs)) (drop (st .at + 1) T))
+        (λ i. walk numbersOf (cond (o i) (getD ps (st .at) 0 ∷ stk) stk) (applied numbersOf (sym he i) (view st es xs)) (drop (st .at + 1) T))
         ∙ did-walk T (cond c (getD ps (st .at) 0 ∷ stk) stk) d
 
     -- it opens none
@@ -143,8 +145,8 @@ module _ (ks ps ls : List ℕ) (even : length ps ≡ length ks) (flat : length l
           went = record {
             same = λ stk.
                 w .same stk
-                ∙ ap (λ (l : List Token). walk (stackBy inside q stk) (view r es′ xs′) l) e
-                ∙ sym (ap (λ (l : List Token). walk stk (view r es′ xs′) l) e);
+                ∙ ap (λ (l : List Token). walk numbersOf (stackBy inside q stk) (view r es′ xs′) l) e
+                ∙ sym (ap (λ (l : List Token). walk numbersOf stk (view r es′ xs′) l) e);
             ready = w .ready;
           };
           kept = w .kept;
@@ -154,9 +156,9 @@ module _ (ks ps ls : List ℕ) (even : length ps ≡ length ks) (flat : length l
 
     module _ {b : Bracket} (st : State) (es xs : List ℕ) (h : st .at < length ks) (hb : b ≡ bracketBy inside ks (st .at)) where
       -- one token and its effect
-      one : (stk : List ℕ) (c : Bool) → ends b ≡ c → walk (stackBy inside q stk) (view st es xs) (drop (st .at) T)
-          ≡ walk (enter (bracketIn ks (st .at)) (getD ps (st .at) 0) (cond c stk (stackBy inside q stk)))
-          (applied (effectIn ks ps ls xs st b q) (view st es xs))
+      one : (stk : List ℕ) (c : Bool) → ends b ≡ c → walk numbersOf (stackBy inside q stk) (view st es xs) (drop (st .at) T)
+          ≡ walk numbersOf (enter (bracketIn ks (st .at)) (getD ps (st .at) 0) (cond c stk (stackBy inside q stk)))
+          (applied numbersOf (effectIn ks ps ls xs st b q) (view st es xs))
           (drop (st .at + 1) T)
       one stk c o =
           let k = typeOf (getD ks (st .at) 0) in
@@ -166,7 +168,7 @@ module _ (ks ps ls : List ℕ) (even : length ps ≡ length ks) (flat : length l
           let l : leave (bracketIn ks (st .at)) (stackBy inside q stk) ≡ cond c stk (stackBy inside q stk) =
           left inside q (bracketIn ks (st .at)) stk ∙ ap (λ (d : Bool). cond d stk (stackBy inside q stk)) (sym (ap ends hb) ∙ o) in
           turned (stackBy inside q stk) st es xs h
-          ∙ (λ i. walk (enter (bracketIn ks (st .at)) (getD ps (st .at) 0) (l i)) (applied (f i) (view st es xs)) (drop (st .at + 1) T))
+          ∙ (λ i. walk numbersOf (enter (bracketIn ks (st .at)) (getD ps (st .at) 0) (l i)) (applied numbersOf (f i) (view st es xs)) (drop (st .at + 1) T))
 
       -- it ends the bracket
       pub read-ends : {r : State} {es′ xs′ : List ℕ} → ends b ≡ true → TookToken ks ps ls b q st r es es′ xs xs′
@@ -205,15 +207,16 @@ module _ (ks ps ls : List ℕ) (even : length ps ≡ length ks) (flat : length l
       let ef : first ≡ nextAt T 0 = hf ∙ sym (next-is ks ps ls even flat 0) in
       let en : second ≡ nextAt T 1 = hs ∙ sym (next-is ks ps ls even flat 1) in
       let er : root ≡ rootOf T = hr ∙ (λ i. noteFrom (ef i) ((hm ∙ ap signIn en) i)) in
-      let read : view r es₂ xs₂ ≡ walk [] (view u es₁ xs) (drop (u .at) T) = sym (w .went .same [] ∙ ap (λ (l : List Token). walk [] (view r es₂ xs₂) l) (drop-none ks ps ls (r .at) (w .whole refl))) in
-      let v : view r es₂ xs₂ ≡ parseOf T = read ∙ sym (did-walk T [] d) ∙ (λ i. walk [] (applied (rootEffect (er i) (en i)) blank) (drop 1 T)) in
+      let read : view r es₂ xs₂ ≡ walk numbersOf [] (view u es₁ xs) (drop (u .at) T) = sym (w .went .same [] ∙ ap (λ (l : List Token). walk numbersOf [] (view r es₂ xs₂) l) (drop-none ks ps ls (r .at) (w .whole refl))) in
+      let v : view r es₂ xs₂ ≡ parseBy numbersOf T = read ∙ sym (did-walk T [] d) ∙ (λ i. walk numbersOf [] (applied numbersOf (rootEffect (er i) (en i)) blank) (drop 1 T)) in
+      let exps : expsOf (r .exps) xs₂ ≡ parseOf T .exps = ap (λ (s : Parsing ℕ). s .exps) v ∙ parse-exps T in
       let k = kept-then (d .kept) (w .kept) in
       record {
         root = er;
-        errs = ap (λ (s : Parsing). s .errs) v;
+        errs = ap (λ (s : Parsing ℕ). s .errs) v ∙ parse-errors T;
         rest = k .rest;
-        numbers = sym (k .numbered refl) ∙ ap (λ (s : Parsing). map expNumber (s .exps)) v;
-        exps = ap (λ (s : Parsing). s .exps) v;
+        numbers = sym (k .numbered refl) ∙ ap (map expNumber) exps;
+        exps = exps;
         others = k .others;
         few = w .went .ready .errs;
         fewer = w .went .ready .exps;

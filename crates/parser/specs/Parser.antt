@@ -9,9 +9,9 @@ use Rattle.intervals.specs.Interval.{majorSixth}
 use Rattle.note.specs.declared.OptionalNote.the-variants as optional
 use Rattle.note.specs.declared.OptionalNote.{OptionalNote}
 use Rattle.expression.specs.Expression.{onExtension}
-use Rattle.expression.specs.ParserError.{numbersOf}
 use Rattle.expression.specs.declared.expression.Exp.{Exp}
 use Rattle.expression.specs.declared.parser_error.ParserError.the-variants.{MissingRootNote}
+use Rattle.expression.specs.declared.parser_error.ParserError.{ParserError}
 use Rattle.lookahead.specs.Next.{isSign, nextOf, noteFrom, signIn}
 use Rattle.step.specs.Step.{insideOf, stepOf}
 use Rattle.step.specs.declared.context.Context.the-variants as context
@@ -29,36 +29,24 @@ use Rattle.token.specs.declared.Bracket.the-variants.{Opens, Closes, Ends, Othe
 use Rattle.token.specs.declared.Bracket.{Bracket}
 use Rattle.token.specs.declared.TokenType.{TokenType}
 
--- what has been found so far, and how many of the tokens to come are taken already; an error is four numbers
-pub record Parsing : Type 0 where
+-- what has been found so far, and how many of the tokens to come are taken already; E is what errors are kept as
+pub record Parsing (E : Type 0) : Type 0 where
   pub skip : ℕ
   pub count : ℤ
   pub context : Context
-  pub errs : List ℕ
+  pub errs : List E
   pub exps : List Exp
 
-abbrev pub skipping : ℕ → Parsing → Parsing
+abbrev pub skipping : {E : Type 0} → ℕ → Parsing E → Parsing E
 skipping n s = record { skip = n; count = s .count; context = s .context; errs = s .errs; exps = s .exps }
+
+abbrev pub blank : {E : Type 0} → Parsing E
+blank = record { skip = 0; count = pos 0; context = context.None; errs = []; exps = [] }
 
 abbrev pub gainsOf : Gains → List Exp
 gainsOf gains.None = []
 gainsOf (gains.One e) = e ∷ []
 gainsOf (gains.Two e f) = e ∷ f ∷ []
-
-abbrev pub errorOf : OptionalError → List ℕ
-errorOf error.None = []
-errorOf (error.Some e) = numbersOf e
-
--- a token had the effect e
-abbrev pub applied : Effect → Parsing → Parsing
-applied e s =
-    record {
-      skip = e .taken;
-      count = e .count;
-      context = e .context;
-      errs = s .errs ++ errorOf (e .error);
-      exps = s .exps ++ gainsOf (e .gains);
-    }
 
 -- is it the extension 6?
 abbrev pub isSix : Exp → Bool
@@ -69,7 +57,7 @@ unfoldable pub lastSix : Bool → List Exp → Bool
 lastSix b [] = b
 lastSix b (e ∷ es) = lastSix (isSix e) es
 
-abbrev pub hereOf : Token → Parsing → Here
+abbrev pub hereOf : {E : Type 0} → Token → Parsing E → Here
 hereOf t s = record { pos = t .pos; len = t .len; count = s .count; context = s .context; six = lastSix false (s .exps) }
 
 abbrev pub nextAt : List Token → ℕ → Next
@@ -104,18 +92,10 @@ leave b stk = cond (ends b) (drop 1 stk) stk
 abbrev pub bracketOf : Token → Bracket
 bracketOf t = bracketKind (typeOf (t .kind))
 
--- the open brackets and what has been found after the token t, before the tokens ts; nothing, where t is taken already
+-- the open brackets after the token t; as before, where t is taken already
 abbrev pub stackTurn : ℕ → List ℕ → Token → List ℕ
 stackTurn zero stk t = enter (bracketOf t) (t .pos) (leave (bracketOf t) stk)
 stackTurn (suc n) stk t = stk
-
-abbrev pub tokenTurn : ℕ → List ℕ → Parsing → Token → List Token → Parsing
-tokenTurn zero stk s t ts = applied (effectAt stk (typeOf (t .kind)) (hereOf t s) (aheadOf ts)) s
-tokenTurn (suc n) stk s t ts = skipping n s
-
-unfoldable pub walk : List ℕ → Parsing → List Token → Parsing
-walk stk s [] = skipping 0 s
-walk stk s (t ∷ ts) = walk (stackTurn (s .skip) stk t) (tokenTurn (s .skip) stk s t ts) ts
 
 -- the root, with its sign
 abbrev pub rootOf : List Token → OptionalNote
@@ -128,9 +108,41 @@ rootEffect (optional.Some n) nx =
 rootEffect optional.None nx =
     record { taken = 0; count = pos 0; context = context.None; gains = gains.None; error = error.Some MissingRootNote }
 
-abbrev pub blank : Parsing
-blank = record { skip = 0; count = pos 0; context = context.None; errs = []; exps = [] }
+-- the walk over the tokens. It never looks at the errors it has found, so what they are kept as is left open: `parseOf` keeps them as they
+-- are, and the code as numbers
+module _ {E : Type 0} (kept : ParserError → List E) where
+  abbrev pub errorOf : OptionalError → List E
+  errorOf error.None = []
+  errorOf (error.Some e) = kept e
+
+  -- a token had the effect e
+  abbrev pub applied : Effect → Parsing E → Parsing E
+  applied e s =
+      record {
+        skip = e .taken;
+        count = e .count;
+        context = e .context;
+        errs = s .errs ++ errorOf (e .error);
+        exps = s .exps ++ gainsOf (e .gains);
+      }
+
+  -- what has been found after the token t, before the tokens ts; nothing more, where t is taken already
+  abbrev pub tokenTurn : ℕ → List ℕ → Parsing E → Token → List Token → Parsing E
+  tokenTurn zero stk s t ts = applied (effectAt stk (typeOf (t .kind)) (hereOf t s) (aheadOf ts)) s
+  tokenTurn (suc n) stk s t ts = skipping n s
+
+  unfoldable pub walk : List ℕ → Parsing E → List Token → Parsing E
+  walk stk s [] = skipping 0 s
+  walk stk s (t ∷ ts) = walk (stackTurn (s .skip) stk t) (tokenTurn (s .skip) stk s t ts) ts
+
+  -- from the root on
+  abbrev pub parseBy : List Token → Parsing E
+  parseBy ts = walk [] (applied (rootEffect (rootOf ts) (nextAt ts 1)) blank) (drop 1 ts)
+
+-- an error by itself
+abbrev pub itself : ParserError → List ParserError
+itself e = e ∷ []
 
 -- all that is found in the tokens, but for the root
-abbrev pub parseOf : List Token → Parsing
-parseOf ts = walk [] (applied (rootEffect (rootOf ts) (nextAt ts 1)) blank) (drop 1 ts)
+abbrev pub parseOf : List Token → Parsing ParserError
+parseOf = parseBy itself

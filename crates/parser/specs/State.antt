@@ -8,6 +8,7 @@ use lib.IntN.{pos}
 use lib.ListN.{length, take, drop, getD}
 use lib.Signed.{mag}
 use Rattle.expression.specs.Expression.{expNumber, expOf}
+use Rattle.expression.specs.ParserError.{allNumbers, numbersOf}
 use Rattle.expression.specs.declared.expression.Exp.{Exp}
 use Rattle.step.specs.Bounds.{gainsCount, susBit}
 use Rattle.lookahead.specs.Next.{nextOf}
@@ -50,7 +51,7 @@ expsOf n xs = map expOf (take n xs)
 abbrev pub Numbered : ℕ → List ℕ → Type 0
 Numbered n xs = map expNumber (expsOf n xs) ≡ take n xs
 
-abbrev pub view : State → List ℕ → List ℕ → Parsing
+abbrev pub view : State → List ℕ → List ℕ → Parsing ℕ
 view st es xs =
     record { skip = 0; count = st .count; context = st .context; errs = take (4 * st .errors) es; exps = expsOf (st .exps) xs }
 
@@ -163,20 +164,20 @@ pub record Kept (st r : State) (es es′ xs xs′ : List ℕ) : Type 0 where
 
 -- the token at st had the effect e
 pub record EffectDone (e : Effect) (st r : State) (es es′ xs xs′ : List ℕ) : Type 0 where
-  pub same : view r es′ xs′ ≡ skipping 0 (applied e (view st es xs))
+  pub same : view r es′ xs′ ≡ skipping 0 (applied numbersOf e (view st es xs))
   pub kept : Kept st r es es′ xs xs′
   pub moved : r .at ≡ st .at + 1 + e .taken
   pub ready : Ready r
 
 -- going on from s with the tokens ts and the brackets `q stk` open is going on from r with `stk` open
-pub record WentOn (T : List Token) (q : List ℕ → List ℕ) (s : Parsing) (ts : List Token) (r : State) (es xs : List ℕ) : Type 0 where
-  pub same : (stk : List ℕ) → walk (q stk) s ts ≡ walk stk (view r es xs) (drop (r .at) T)
+pub record WentOn (T : List Token) (q : List ℕ → List ℕ) (s : Parsing ℕ) (ts : List Token) (r : State) (es xs : List ℕ) : Type 0 where
+  pub same : (stk : List ℕ) → walk numbersOf (q stk) s ts ≡ walk numbersOf stk (view r es xs) (drop (r .at) T)
   pub ready : Ready r
 
 -- the token at st, which is b to the bracket opened at q, and the bracket that it opens were taken
 pub record TookToken (ks ps ls : List ℕ) (b : Bracket) (q : ℕ) (st r : State) (es es′ xs xs′ : List ℕ) : Type 0 where
   pub went : WentOn (rows ks ps ls) (enter (bracketIn ks (st .at)) (getD ps (st .at) 0))
-      (applied (effectIn ks ps ls xs st b q) (view st es xs)) (drop (st .at + 1) (rows ks ps ls)) r es′ xs′
+      (applied numbersOf (effectIn ks ps ls xs st b q) (view st es xs)) (drop (st .at + 1) (rows ks ps ls)) r es′ xs′
   pub kept : Kept st r es es′ xs xs′
   pub forward : st .at < r .at
 
@@ -190,7 +191,7 @@ pub record Read (ks ps ls : List ℕ) (inside : Bool) (q : ℕ) (st r : State) (
 -- the tokens were read: r and the lent lists hold what the definition says, and what lies behind it is untouched
 pub record Parsed (ts : List Token) (r : ParseResult) (es es′ xs xs′ : List ℕ) : Type 0 where
   pub root : r .root ≡ rootOf ts
-  pub errs : take (4 * r .errors) es′ ≡ parseOf ts .errs
+  pub errs : take (4 * r .errors) es′ ≡ allNumbers (parseOf ts .errs)
   pub rest : drop (4 * r .errors) es′ ≡ drop (4 * r .errors) es
   pub numbers : take (r .exps) xs′ ≡ map expNumber (parseOf ts .exps)
   pub exps : expsOf (r .exps) xs′ ≡ parseOf ts .exps

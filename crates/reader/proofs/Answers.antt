@@ -9,6 +9,7 @@ use lib.ListN.{length}
 use borrow.Author.Tests.{le-ltb, lt-ltb, ltb-false, ltb-true}
 use Rattle.evaluator.specs.Evaluator.{evalSet}
 use Rattle.expression.specs.declared.expression.Exp.{Exp}
+use Rattle.expression.specs.declared.parser_error.ParserError.{ParserError}
 use Rattle.parser.specs.Parser.{parseOf, rootOf}
 use Rattle.utf8.specs.Utf8.{wellFormed}
 use Rattle.validator.specs.Validator.{validationOf}
@@ -47,18 +48,18 @@ module _ (text : List ℕ) where
   abbrev expsIn : List Exp
   expsIn = parseOf (tokensIn text) .exps
 
-  abbrev parseErrors : List ℕ
+  abbrev parseErrors : List ParserError
   parseErrors = parseOf (tokensIn text) .errs
 
-  abbrev validationErrors : List ℕ
+  abbrev validationErrors : List ParserError
   validationErrors = validationOf expsIn (evalSet expsIn)
 
   -- which question got no, with the outcome that it makes; the last is an accepted text
   pub data Way : ReadOutcome → Type 0 where
     long : 256 < length text → Way (refused 2)
     bytes : length text ≤ 256 → wellFormed text ≡ false → Way (refused 3)
-    parse : {x : ℕ} {e : List ℕ} → length text ≤ 256 → wellFormed text ≡ true → parseErrors ≡ x ∷ e → Way (found 4 (x ∷ e))
-    validation : {x : ℕ} {e : List ℕ} → length text ≤ 256 → wellFormed text ≡ true → parseErrors ≡ [] → validationErrors ≡ x ∷ e
+    parse : {x : ParserError} {e : List ParserError} → length text ≤ 256 → wellFormed text ≡ true → parseErrors ≡ x ∷ e → Way (found 4 (x ∷ e))
+    validation : {x : ParserError} {e : List ParserError} → length text ≤ 256 → wellFormed text ≡ true → parseErrors ≡ [] → validationErrors ≡ x ∷ e
         → Way (found 5 (x ∷ e))
     accept : length text ≤ 256 → wellFormed text ≡ true → parseErrors ≡ [] → validationErrors ≡ []
         → Way (accepted (rootOf (tokensIn text)) expsIn)
@@ -67,7 +68,7 @@ module _ (text : List ℕ) where
   unfolding answerTo
   way = by (ltb 256 (length text)) (wellFormed text) parseErrors validationErrors refl refl refl refl
     where
-      by : (b c : Bool) (e d : List ℕ) → ltb 256 (length text) ≡ b → wellFormed text ≡ c → parseErrors ≡ e → validationErrors ≡ d
+      by : (b c : Bool) (e d : List ParserError) → ltb 256 (length text) ≡ b → wellFormed text ≡ c → parseErrors ≡ e → validationErrors ≡ d
           → Way (cond b (refused 2) (cond c (judge e 4 (judge d 5 (accepted (rootOf (tokensIn text)) expsIn))) (refused 3)))
       by true c e d q u p v = long (ltb-true 256 (length text) q)
       by false false e d q u p v = bytes (ltb-false 256 (length text) q) u

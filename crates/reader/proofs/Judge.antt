@@ -3,14 +3,17 @@
 use mathlib.Core.Bool.{Bool, true, false, not}
 use mathlib.Core.List.{List, [], _∷_, _++_, map}
 use mathlib.Core.Path.{_≡_, refl, sym, ap, subst, _∙_}
-use Prim.Native.Nat.{ℕ, zero, suc, _+_, _*_, _/_, _≤_, _<_}
+use Prim.Native.Nat.{ℕ, zero, suc, _+_, _*_, _≤_, _<_}
 use native.Mathlib.Nat.{not-suc-le-zero, le-of-suc-le-suc}
 use native.Mathlib.Omega.{arith}
 use lib.ListN.{length, take, drop}
 use lib.Seq.{length-take-le}
 use Rattle.chord.specs.Chord.{fourOf, noChord, recordOf}
 use Rattle.note.specs.declared.OptionalNote.{OptionalNote}
+use Rattle.expression.proofs.AllNumbers.{all-length}
 use Rattle.expression.specs.Expression.{expOf}
+use Rattle.expression.specs.ParserError.{allNumbers}
+use Rattle.expression.specs.declared.parser_error.ParserError.{ParserError}
 use Rattle.expression.specs.declared.expression.Exp.{Exp}
 use Rattle.token.specs.Token.{Token}
 use Rattle.expression.specs.Bounds.{Sound}
@@ -27,26 +30,28 @@ parted (suc n) [] = refl
 parted (suc n) (x ∷ l) = ap (λ (q : List ℕ). x ∷ q) (parted n l)
 
 -- the count of errors by the numbers that were written
-pub counted : (n : ℕ) (more es : List ℕ) → 4 * n ≤ length es → take (4 * n) es ≡ more → 4 * n ≡ length more
-counted n more es h e = sym (length-take-le (4 * n) es h) ∙ ap length e
+pub counted : (n : ℕ) (more : List ParserError) (es : List ℕ) → 4 * n ≤ length es → take (4 * n) es ≡ allNumbers more → n ≡ length more
+counted n more es h e =
+    let l : length (take (4 * n) es) ≡ length (allNumbers more) = ap length e in
+    omega (arith, length-take-le (4 * n) es h, l, all-length more)
 
 -- errors were found
-pub gave-errors : (more : List ℕ) (k : ℕ) (o : ReadOutcome) (n : ℕ) {r : Reading} {es es′ : List ℕ} → 0 < n → 4 * n ≡ length more
-    → take (4 * n) es′ ≡ more → drop (4 * n) es′ ≡ drop (4 * n) es → numberOf (r .answer) ≡ k → countOf (r .answer) ≡ n
+pub gave-errors : (more : List ParserError) (k : ℕ) (o : ReadOutcome) (n : ℕ) {r : Reading} {es es′ : List ℕ} → 0 < n → n ≡ length more
+    → take (4 * n) es′ ≡ allNumbers more → drop (4 * n) es′ ≡ drop (4 * n) es → numberOf (r .answer) ≡ k → countOf (r .answer) ≡ n
     → fourOf (r .chord) ≡ noChord → r .chord ≡ recordOf noChord → ReadGave (judge more k o) r es es′
 gave-errors [] k o n {r} {es} {es′} h m t d a b c w = absurd (omega (arith, h, m))
 gave-errors (x ∷ xs) k o n {r} {es} {es′} h m t d a b c w =
-    let q : n ≡ length (x ∷ xs) / 4 = omega (arith, m) in
+    let q : 4 * n ≡ length (allNumbers (x ∷ xs)) = omega (arith, m, all-length (x ∷ xs)) in
     record {
       number = a;
-      count = b ∙ q;
+      count = b ∙ m;
       four = c;
       chord = w;
-      list = parted (4 * n) es′ ∙ (λ i. t i ++ d i) ∙ ap (λ (j : ℕ). x ∷ xs ++ drop j es) m;
+      list = parted (4 * n) es′ ∙ (λ i. t i ++ d i) ∙ ap (λ (j : ℕ). allNumbers (x ∷ xs) ++ drop j es) q;
     }
 
 -- none was
-pub gave-none : (more : List ℕ) (k : ℕ) (o : ReadOutcome) {r : Reading} {es es′ : List ℕ} → length more ≡ 0 → ReadGave o r es es′
+pub gave-none : (more : List ParserError) (k : ℕ) (o : ReadOutcome) {r : Reading} {es es′ : List ℕ} → length more ≡ 0 → ReadGave o r es es′
     → ReadGave (judge more k o) r es es′
 gave-none [] k o h g = g
 gave-none (x ∷ xs) k o h g = absurd (omega (arith, h))

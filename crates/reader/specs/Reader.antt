@@ -2,14 +2,16 @@
 use mathlib.Core.Bool.{cond}
 use mathlib.Core.List.{List, [], _∷_}
 use mathlib.Core.Path.{_≡_}
-use Prim.Native.Nat.{ℕ, _/_}
+use Prim.Native.Nat.{ℕ}
 use lib.Dec.{ltb}
 use lib.ListN.{length}
 use Rattle.chord.specs.Chord.{Four, noChord}
 use Rattle.note.specs.declared.OptionalNote.{OptionalNote}
 use Rattle.display.specs.Display.{displayOf, firstSus}
 use Rattle.evaluator.specs.Evaluator.{evalSet, slashBass}
+use Rattle.expression.specs.ParserError.{allNumbers}
 use Rattle.expression.specs.declared.expression.Exp.{Exp}
+use Rattle.expression.specs.declared.parser_error.ParserError.{ParserError}
 use Rattle.folding.specs.Folding.{preProcess}
 use Rattle.lexer.specs.Lexer.{tokensOf}
 use Rattle.parser.specs.Parser.{parseOf, rootOf}
@@ -55,11 +57,11 @@ abbrev pub accepted : OptionalNote → List Exp → ReadOutcome
 accepted root l = record { number = 0; count = 0; four = fourBy root l; errs = [] }
 
 -- "After 4 or 5 with n errors the first 4n numbers hold them"
-abbrev pub found : ℕ → List ℕ → ReadOutcome
-found n e = record { number = n; count = length e / 4; four = noChord; errs = e }
+abbrev pub found : ℕ → List ParserError → ReadOutcome
+found n e = record { number = n; count = length e; four = noChord; errs = allNumbers e }
 
 -- the number n with the errors, or o where there are none
-abbrev pub judge : List ℕ → ℕ → ReadOutcome → ReadOutcome
+abbrev pub judge : List ParserError → ℕ → ReadOutcome → ReadOutcome
 judge [] n o = o
 judge (x ∷ xs) n o = found n (x ∷ xs)
 

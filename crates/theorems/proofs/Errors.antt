@@ -1,9 +1,9 @@
--- Which errors there are: four numbers for each, the first of them a kind that occurs, and not more than there is room for. An effect of
--- a token has at most one, and so has each check of validation; the lists are appended. Assumes nothing.
+-- Which errors there are: each of a kind that occurs, and not more than there is room for. An effect of a token has at most one, and so has
+-- each check of validation; the lists are appended. Assumes nothing.
 use mathlib.Core.Bool.{Bool, true, false, not, _&&_, _||_, cond}
 use mathlib.Core.List.{List, [], _∷_, _++_}
 use mathlib.Core.Path.{_≡_, refl, subst}
-use Prim.Native.Nat.{ℕ, zero, suc, _+_, _*_, _/_, _%_, _≤_, _<_}
+use Prim.Native.Nat.{ℕ, zero, suc, _+_, _*_, _%_, _≤_, _<_}
 use native.Mathlib.Omega.{arith}
 use lib.Dec.{T, eqb, ltb}
 use lib.IntN.{pos}
@@ -16,12 +16,13 @@ use Rattle.note.specs.declared.OptionalNote.the-variants as optional
 use Rattle.note.specs.declared.OptionalNote.{OptionalNote}
 use Rattle.note.specs.declared.RootModifier.the-variants.{Natural, Sharp, Flat}
 use Rattle.note.specs.declared.RootModifier.{RootModifier}
-use Rattle.expression.specs.ParserError.{numbersOf, rowOf}
+use Rattle.expression.specs.ParserError.{allNumbers, rowOf}
 use Rattle.expression.specs.declared.expression.Exp.the-variants as exp
 use Rattle.expression.specs.declared.expression.Exp.{Exp}
 use Rattle.expression.specs.declared.parser_error.ParserError.the-variants.{DuplicateModifier, InconsistentExtension, DuplicateExtension, InvalidExtension, WrongExpressionTarget, ThreeConsecutiveSemitones}
 use Rattle.expression.specs.declared.parser_error.ParserError.{ParserError}
-use Rattle.parser.specs.Parser.{Parsing, aheadOf, applied, blank, effectAt, errorOf, hereOf, nextAt, parseOf, rootEffect, rootOf, stackTurn, tokenTurn, walk}
+use Rattle.parser.specs.All.{All}
+use Rattle.parser.specs.Parser.{Parsing, aheadOf, applied, blank, effectAt, errorOf, hereOf, itself, nextAt, parseOf, rootEffect, rootOf, stackTurn, tokenTurn, walk}
 use Rattle.step.specs.Effect.{taking}
 use Rattle.step.specs.Interval.{intervalOf}
 use Rattle.step.specs.Step.{addInterval, addSigned, addTarget, insideOf, intervalAlone, isPower, modifierStep, noteStep, omitTarget, placed, sixNine, stepOf, susAllows}
@@ -43,34 +44,26 @@ use Rattle.parser.proofs.Laws.{errors-most}
 abbrev pub occurs : ℕ → Bool
 occurs k = ltb 0 k && (ltb k 18 && not (eqb k 13))
 
--- four numbers for each error, the first of them a kind that occurs
-pub data Rows : List ℕ → Type 0 where
-  none : Rows []
-  more : {k a b c : ℕ} {l : List ℕ} → T (occurs k) → Rows l → Rows (k ∷ a ∷ b ∷ c ∷ l)
+abbrev Occurs : ParserError → Type 0
+Occurs e = T (occurs (rowOf e .kind))
 
-both-rows : {l m : List ℕ} → Rows l → Rows m → Rows (l ++ m)
-both-rows none s = s
-both-rows (more o r) s = more o (both-rows r s)
+both-occur : (a b : List ParserError) → All Occurs a → All Occurs b → All Occurs (a ++ b)
+both-occur [] b h k = k
+both-occur (e ∷ a) b h k = (h .0, both-occur a b (h .1) k)
 
-pub row-at : {l : List ℕ} → Rows l → (i : ℕ) → 4 * i < length l → T (occurs (getD l (4 * i) 0))
-row-at none i h = absurd (omega (arith, h))
-row-at (more o r) zero h = o
-row-at (more {k} {a} {b} {c} {l} o r) (suc i) h =
-    let e : suc (suc (suc (suc (4 * i)))) ≡ 4 * suc i = omega arith in
-    subst (λ (n : ℕ). T (occurs (getD (k ∷ a ∷ b ∷ c ∷ l) n 0))) e (row-at r i (omega (arith, h)))
-
-pub rows-four : {l : List ℕ} → Rows l → length l ≡ 4 * (length l / 4)
-rows-four none = refl
-rows-four (more o r) = let e = rows-four r in omega (arith, e)
-
-one-row : (e : ParserError) → T (occurs (rowOf e .kind)) → Rows (numbersOf e)
-one-row e o = more o none
+-- the kind of an error is the first of its four numbers
+pub kind-at : (l : List ParserError) → All Occurs l → (i : ℕ) → i < length l → T (occurs (getD (allNumbers l) (4 * i) 0))
+kind-at [] o i h = absurd (omega (arith, h))
+kind-at (e ∷ l) o zero h = o .0
+kind-at (e ∷ l) o (suc i) h =
+    let q : suc (suc (suc (suc (4 * i)))) ≡ 4 * suc i = omega arith in
+    subst (λ (n : ℕ). T (occurs (getD (allNumbers (e ∷ l)) n 0))) q (kind-at l (o .1) i (omega (arith, h)))
 
 -- ---- the effect of a token
 
 abbrev Fine : OptionalError → Type 0
 Fine error.None = Unit
-Fine (error.Some e) = T (occurs (rowOf e .kind))
+Fine (error.Some e) = Occurs e
 
 abbrev Calm : Effect → Type 0
 Calm e = Fine (e .error)
@@ -146,60 +139,64 @@ effect-calm (q ∷ qs) k h a = inside-calm (bracketKind k) q k h a
 
 -- ---- the tokens
 
-error-rows : (e : OptionalError) → Fine e → Rows (errorOf e)
-error-rows error.None f = none
-error-rows (error.Some e) f = one-row e f
+error-occurs : (e : OptionalError) → Fine e → All Occurs (errorOf itself e)
+error-occurs error.None f = tt
+error-occurs (error.Some e) f = (f, tt)
 
-turn-rows : (n : ℕ) (stk : List ℕ) (s : Parsing) (t : Token) (ts : List Token) → Rows (s .errs) → Rows (tokenTurn n stk s t ts .errs)
-turn-rows zero stk s t ts r =
+turn-occur : (n : ℕ) (stk : List ℕ) (s : Parsing ParserError) (t : Token) (ts : List Token) → All Occurs (s .errs)
+    → All Occurs (tokenTurn itself n stk s t ts .errs)
+turn-occur zero stk s t ts o =
     let e = effectAt stk (typeOf (t .kind)) (hereOf t s) (aheadOf ts) in
-    both-rows r (error-rows (e .error) (effect-calm stk (typeOf (t .kind)) (hereOf t s) (aheadOf ts)))
-turn-rows (suc n) stk s t ts r = r
+    both-occur (s .errs) (errorOf itself (e .error)) o
+    (error-occurs (e .error) (effect-calm stk (typeOf (t .kind)) (hereOf t s) (aheadOf ts)))
+turn-occur (suc n) stk s t ts o = o
 
-walk-rows : (stk : List ℕ) (s : Parsing) (ts : List Token) → Rows (s .errs) → Rows (walk stk s ts .errs)
+walk-occur : (stk : List ℕ) (s : Parsing ParserError) (ts : List Token) → All Occurs (s .errs) → All Occurs (walk itself stk s ts .errs)
 unfolding walk
-walk-rows stk s [] r = r
-walk-rows stk s (t ∷ ts) r = walk-rows (stackTurn (s .skip) stk t) (tokenTurn (s .skip) stk s t ts) ts (turn-rows (s .skip) stk s t ts r)
+walk-occur stk s [] o = o
+walk-occur stk s (t ∷ ts) o =
+    walk-occur (stackTurn (s .skip) stk t) (tokenTurn itself (s .skip) stk s t ts) ts (turn-occur (s .skip) stk s t ts o)
 
-root-rows : (n : OptionalNote) (nx : Next) → Rows (applied (rootEffect n nx) blank .errs)
-root-rows (optional.Some n) nx = none
-root-rows optional.None nx = more tt none
+root-occurs : (n : OptionalNote) (nx : Next) → All Occurs (applied itself (rootEffect n nx) blank .errs)
+root-occurs (optional.Some n) nx = tt
+root-occurs optional.None nx = (tt, tt)
 
-parse-rows : (ts : List Token) → Rows (parseOf ts .errs)
-parse-rows ts = walk-rows [] (applied (rootEffect (rootOf ts) (nextAt ts 1)) blank) (drop 1 ts) (root-rows (rootOf ts) (nextAt ts 1))
+parse-occur : (ts : List Token) → All Occurs (parseOf ts .errs)
+parse-occur ts =
+    walk-occur [] (applied itself (rootEffect (rootOf ts) (nextAt ts 1)) blank) (drop 1 ts) (root-occurs (rootOf ts) (nextAt ts 1))
 
--- n errors at most
-pub record Errors (n : ℕ) (l : List ℕ) : Type 0 where
-  pub few : length l ≤ 4 * n
-  pub rows : Rows l
+-- n errors at most, of kinds that occur
+pub record Errors (n : ℕ) (l : List ParserError) : Type 0 where
+  pub few : length l ≤ n
+  pub each : All Occurs l
 
 pub parse-errors : (ts : List Token) → length ts ≤ 257 → Errors 257 (parseOf ts .errs)
-parse-errors ts h = record { few = errors-most ts h; rows = parse-rows ts }
+parse-errors ts h = record { few = errors-most ts h; each = parse-occur ts }
 
 -- ---- validation
 
 nil-errors : (n : ℕ) → Errors n []
-nil-errors n = record { few = omega arith; rows = none }
+nil-errors n = record { few = omega arith; each = tt }
 
 -- those of a, and then those of b
-both : {n m : ℕ} (r : ℕ) (a b : List ℕ) → n + m ≤ r → Errors n a → Errors m b → Errors r (a ++ b)
-both r a b h e f = record { few = omega (arith, h, e .few, f .few, length-append a b); rows = both-rows (e .rows) (f .rows) }
+both : {n m : ℕ} (r : ℕ) (a b : List ParserError) → n + m ≤ r → Errors n a → Errors m b → Errors r (a ++ b)
+both r a b h e f = record { few = omega (arith, h, e .few, f .few, length-append a b); each = both-occur a b (e .each) (f .each) }
 
-wider : {n : ℕ} (m : ℕ) {l : List ℕ} → n ≤ m → Errors n l → Errors m l
-wider m h e = record { few = omega (arith, h, e .few); rows = e .rows }
+wider : {n : ℕ} (m : ℕ) {l : List ParserError} → n ≤ m → Errors n l → Errors m l
+wider m h e = record { few = omega (arith, h, e .few); each = e .each }
 
-one-error : (e : ParserError) → T (occurs (rowOf e .kind)) → Errors 1 (numbersOf e)
-one-error e o = record { few = omega arith; rows = one-row e o }
+one-error : (e : ParserError) → Occurs e → Errors 1 (e ∷ [])
+one-error e o = record { few = omega arith; each = (o, tt) }
 
-only-errors : (b : Bool) (e : ParserError) → T (occurs (rowOf e .kind)) → Errors 1 (only b e)
+only-errors : (b : Bool) (e : ParserError) → Occurs e → Errors 1 (only b e)
 only-errors true e o = one-error e o
 only-errors false e o = nil-errors 1
 
-else-errors : {n : ℕ} (a b : List ℕ) → Errors n a → Errors n b → Errors n (orElse a b)
+else-errors : {n : ℕ} (a b : List ParserError) → Errors n a → Errors n b → Errors n (orElse a b)
 else-errors [] b e f = f
 else-errors (x ∷ a) b e f = e
 
-module _ (f : ℕ → List ℕ) (each : (i : ℕ) → Errors 1 (f i)) where
+module _ (f : ℕ → List ParserError) (each : (i : ℕ) → Errors 1 (f i)) where
   first-errors : (n i : ℕ) → Errors 1 (firstFrom f n i)
   unfolding firstFrom
   first-errors zero i = nil-errors 1
@@ -233,7 +230,7 @@ first-wrong-errors [] = nil-errors 1
 first-wrong-errors (e ∷ l) = else-errors (wrongOf e) (firstWrong l) (wrong-errors e) (first-wrong-errors l)
 
 fault-at-errors : (b : Bool) (seen : Set) (x p : ℕ)
-    → Errors 1 (cond b (numbersOf (InvalidExtension p)) (only (seen (semitones x)) (DuplicateExtension p)))
+    → Errors 1 (cond b (InvalidExtension p ∷ []) (only (seen (semitones x)) (DuplicateExtension p)))
 fault-at-errors true seen x p = one-error (InvalidExtension p) tt
 fault-at-errors false seen x p = only-errors (seen (semitones x)) (DuplicateExtension p) tt
 

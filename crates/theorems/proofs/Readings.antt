@@ -5,7 +5,7 @@ use mathlib.Core.List.{List, [], _∷_, _++_}
 use mathlib.Core.Logic.{_↔_}
 use mathlib.Core.Option.{some}
 use mathlib.Core.Path.{_≡_, refl, sym, ap, subst, _∙_}
-use Prim.Native.Nat.{ℕ, _+_, _*_, _/_, _≤_, _<_}
+use Prim.Native.Nat.{ℕ, _+_, _*_, _≤_, _<_}
 use native.Mathlib.Omega.{arith}
 use lib.Dec.{T, eqb, ltb, ltb→lt}
 use lib.ListN.{List·getD-append, drop, getD, length, length-append, length-drop}
@@ -16,6 +16,9 @@ use Rattle.note.specs.declared.OptionalNote.the-variants.{Some}
 use Rattle.house_parts.proofs.Bools.{and-left, and-right}
 use Rattle.nophtris.specs.Boundary.{chordBytes, countAfter, fourIn}
 use Rattle.nophtris.specs.State as C
+use Rattle.expression.proofs.AllNumbers.{all-length}
+use Rattle.expression.specs.ParserError.{allNumbers}
+use Rattle.expression.specs.declared.parser_error.ParserError.{ParserError}
 use Rattle.parser.specs.Parser.{parseOf}
 use Rattle.house_text.proofs.Realized.{accepted-realizable}
 use Rattle.reader.proofs.Answers.{Asked, Way, accept, asked-first, bytes, enough, long, long-list, parse, short, validation, way}
@@ -27,7 +30,7 @@ use Rattle.reader.specs.declared.Reading.{Reading}
 use Rattle.theorems.proofs.Counts.{tokens-most}
 use Rattle.theorems.proofs.Decoding.{decoded, fifty-one-bytes}
 use Rattle.theorems.proofs.Errors as errors
-use Rattle.theorems.proofs.Errors.{occurs, parse-errors, row-at, rows-four, validation-errors}
+use Rattle.theorems.proofs.Errors.{kind-at, occurs, parse-errors, validation-errors}
 use Rattle.theorems.specs.CReading as C-reading
 use Rattle.theorems.specs.Reading.{Errors, Numbered, ReadApart, ReadErrors, ReadNumbered, ReadRecord, ReadUntouched, errorsOf, fourOfText, parseErrors, validationErrors}
 use Rattle.utf8.proofs.Laws.{well-formed-is}
@@ -51,10 +54,10 @@ module _ (text : List ℕ) where
   ill-formed : wellFormed text ≡ false → WellFormed text → ⊥
   ill-formed u w = true≢false (sym (well-formed-is text .1 w) ∙ u)
 
-  some-errors : {x : ℕ} {e l : List ℕ} → l ≡ x ∷ e → 1 ≤ length l
+  some-errors : {x : ParserError} {e l : List ParserError} → l ≡ x ∷ e → 1 ≤ length l
   some-errors p = let z = ap length p in omega (arith, z)
 
-  no-errors : {l : List ℕ} → l ≡ [] → 1 ≤ length l → ⊥
+  no-errors : {l : List ParserError} → l ≡ [] → 1 ≤ length l → ⊥
   no-errors p h = let z = ap length p in omega (arith, z, h)
 
   is-2 : {o : ReadOutcome} → Way text o → (o .number ≡ 2) ↔ (256 < length text)
@@ -128,13 +131,14 @@ module _ (text : List ℕ) where
 
   -- errors that were found
   found-errors : {o : ReadOutcome} → Way text o → 4 ≤ o .number
-      → errors.Errors 257 (o .errs) × (1 ≤ length (o .errs)) × (o .count ≡ length (o .errs) / 4)
+      → (l : List ParserError) × errors.Errors 257 l × (1 ≤ length l) × (o .count ≡ length l) × (o .errs ≡ allNumbers l)
   found-errors (long k) h = absurd (omega (arith, h))
   found-errors (bytes k u) h = absurd (omega (arith, h))
-  found-errors (parse k u p) h = (subst (errors.Errors 257) p (parse-errors (tokensIn text) (tokens-most text k)), omega arith, refl)
-  found-errors (validation k u p v) h =
+  found-errors (parse {x} {e} k u p) h =
+      (x ∷ e, subst (errors.Errors 257) p (parse-errors (tokensIn text) (tokens-most text k)), omega arith, refl, refl)
+  found-errors (validation {x} {e} k u p v) h =
       let l = parseOf (tokensIn text) .exps in
-      (subst (errors.Errors 257) v (validation-errors l (evalSet l)), omega arith, refl)
+      (x ∷ e, subst (errors.Errors 257) v (validation-errors l (evalSet l)), omega arith, refl, refl)
   found-errors (accept k u p v) h = absurd (omega (arith, h))
 
   nothing-found : {o : ReadOutcome} → Way text o → o .number ≤ 3 → (o .errs ≡ []) × (o .count ≡ 0)
@@ -160,20 +164,22 @@ module _ (text : List ℕ) where
   listed es es′ count (enough k) h c l =
       let e = errorsOf text in
       let f = found-errors (way text) h in
-      let four : length e ≡ 4 * count = rows-four (f .0 .rows) ∙ ap (λ (n : ℕ). 4 * n) (sym (c ∙ f .2)) in
+      let four : length e ≡ 4 * count = ap length (f .4) ∙ all-length (f .0) ∙ ap (λ (n : ℕ). 4 * n) (sym (c ∙ f .3)) in
       let now : es′ ≡ e ++ drop (4 * count) es = l ∙ ap (λ (j : ℕ). e ++ drop j es) four in
       let size = ap length l in
       record {
-        some = omega (arith, f .1, four);
-        most = omega (arith, f .0 .few, four);
+        some = omega (arith, f .2, f .3, c);
+        most = omega (arith, f .1 .few, f .3, c);
         four = four;
         list = now;
-        same = omega (arith, size, k, f .0 .few, length-append e (drop (length e) es), length-drop (length e) es);
+        same = omega (arith, size, k, f .1 .few, f .3, c, four, length-append e (drop (length e) es), length-drop (length e) es);
         kinds = λ i m.
             let b : 4 * i < length e = omega (arith, m, four) in
-            let g : getD es′ (4 * i) 0 ≡ getD e (4 * i) 0 = ap (λ (q : List ℕ). getD q (4 * i) 0) l
-            ∙ List·getD-append e (drop (length e) es) 0 (4 * i) b in
-            kind-of (getD es′ (4 * i) 0) (subst (λ (n : ℕ). T (occurs n)) (sym g) (row-at (f .0 .rows) i b));
+            let g : getD es′ (4 * i) 0 ≡ getD (allNumbers (f .0)) (4 * i) 0 = ap (λ (q : List ℕ). getD q (4 * i) 0) l
+            ∙ List·getD-append e (drop (length e) es) 0 (4 * i) b
+            ∙ ap (λ (q : List ℕ). getD q (4 * i) 0) (f .4) in
+            let t = kind-at (f .0) (f .1 .each) i (omega (arith, m, f .3, c)) in
+            kind-of (getD es′ (4 * i) 0) (subst (λ (n : ℕ). T (occurs n)) (sym g) t);
       }
 
   unlisted : (es es′ : List ℕ) {o : ReadOutcome} → Asked (length es) text o → o .number ≤ 3 → es′ ≡ o .errs ++ drop (length (o .errs)) es

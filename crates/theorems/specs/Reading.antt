@@ -10,6 +10,7 @@ use Rattle.chord.specs.Chord.{Four, fourOf, noChord, recordOf}
 use Rattle.note.specs.declared.Note.{Note}
 use Rattle.note.specs.declared.OptionalNote.the-variants.{Some}
 use Rattle.evaluator.specs.Evaluator.{evalSet}
+use Rattle.expression.specs.declared.parser_error.ParserError.{ParserError}
 use Rattle.parser.specs.Parser.{parseOf}
 use Rattle.reader.specs.Reader.{IsAccepted, answerTo, countOf, numberOf, tokensIn}
 use Rattle.reader.specs.State.{Read}
@@ -20,14 +21,14 @@ use Rattle.validator.specs.Validator.{validationOf}
 
 -- ---- a text
 
--- what parsing finds in it, and what validation finds in the expressions that parsing gives; an error is four numbers
-abbrev pub parseErrors : List ℕ → List ℕ
+-- what parsing finds in it, and what validation finds in the expressions that parsing gives
+abbrev pub parseErrors : List ℕ → List ParserError
 parseErrors text = parseOf (tokensIn text) .errs
 
-abbrev pub validationErrors : List ℕ → List ℕ
+abbrev pub validationErrors : List ℕ → List ParserError
 validationErrors text = validationOf (parseOf (tokensIn text) .exps) (evalSet (parseOf (tokensIn text) .exps))
 
--- the errors and the four that the rules give it
+-- the errors, as their numbers, and the four that the rules give it
 abbrev pub errorsOf : List ℕ → List ℕ
 errorsOf text = answerTo text .errs
 

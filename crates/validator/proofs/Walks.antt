@@ -13,6 +13,7 @@ use Rattle.intervals.specs.Interval.{Set, semitones}
 use Rattle.expression.specs.Expression.{expOf}
 use Rattle.expression.specs.declared.expression.Exp.{Exp}
 use Rattle.expression.specs.declared.parser_error.ParserError.the-variants.{ThreeConsecutiveSemitones}
+use Rattle.expression.specs.declared.parser_error.ParserError.{ParserError}
 use Rattle.validator.specs.Validator.{firstFrom, allFrom, orElse, wrongOf, firstWrong, priorityOf, timesOf, faultOf, seeing, extensionFault, lastBelow, neighboursAt, only, present, presentBelow, semitoneErrors}
 use Rattle.validator.specs.State.{neighboursIn}
 
@@ -54,50 +55,50 @@ unfolding extensionFault
 fault-end xs i h seen = ap (extensionFault seen) (exps-end xs i h)
 
 -- the first error from i on, below k
-pub first-step : (f : ℕ → List ℕ) (k i : ℕ) → i < k → firstFrom f (k - i) i ≡ orElse (f i) (firstFrom f (k - (i + 1)) (i + 1))
+pub first-step : (f : ℕ → List ParserError) (k i : ℕ) → i < k → firstFrom f (k - i) i ≡ orElse (f i) (firstFrom f (k - (i + 1)) (i + 1))
 unfolding firstFrom
 first-step f k i h =
     let e : k - i ≡ suc (k - (i + 1)) = omega arith in
     let s : suc i ≡ i + 1 = omega arith in
     ap (λ (n : ℕ). firstFrom f n i) e ∙ ap (λ (j : ℕ). orElse (f i) (firstFrom f (k - (i + 1)) j)) s
 
-pub first-end : (f : ℕ → List ℕ) (k i : ℕ) → k ≤ i → firstFrom f (k - i) i ≡ []
+pub first-end : (f : ℕ → List ParserError) (k i : ℕ) → k ≤ i → firstFrom f (k - i) i ≡ []
 unfolding firstFrom
 first-end f k i h =
     let e : k - i ≡ 0 = omega arith in
     ap (λ (n : ℕ). firstFrom f n i) e
 
 -- all errors from i on, below k
-pub all-next : (f : ℕ → List ℕ) (k i : ℕ) → i < k → allFrom f (k - i) i ≡ f i ++ allFrom f (k - (i + 1)) (i + 1)
+pub all-next : (f : ℕ → List ParserError) (k i : ℕ) → i < k → allFrom f (k - i) i ≡ f i ++ allFrom f (k - (i + 1)) (i + 1)
 unfolding allFrom
 all-next f k i h =
     let e : k - i ≡ suc (k - (i + 1)) = omega arith in
     let s : suc i ≡ i + 1 = omega arith in
     ap (λ (n : ℕ). allFrom f n i) e ∙ ap (λ (j : ℕ). f i ++ allFrom f (k - (i + 1)) j) s
 
-pub all-end : (f : ℕ → List ℕ) (k i : ℕ) → k ≤ i → allFrom f (k - i) i ≡ []
+pub all-end : (f : ℕ → List ParserError) (k i : ℕ) → k ≤ i → allFrom f (k - i) i ≡ []
 unfolding allFrom
 all-end f k i h =
     let e : k - i ≡ 0 = omega arith in
     ap (λ (n : ℕ). allFrom f n i) e
 
 -- all errors below i + 1 are those below i, and those of i
-all-more : (f : ℕ → List ℕ) (n i : ℕ) → allFrom f (suc n) i ≡ allFrom f n i ++ f (i + n)
+all-more : (f : ℕ → List ParserError) (n i : ℕ) → allFrom f (suc n) i ≡ allFrom f n i ++ f (i + n)
 unfolding allFrom
 all-more f zero i =
     let e : i ≡ i + 0 = omega arith in
     append-nil (f i) ∙ ap f e
 all-more f (suc n) i =
     let e : suc i + n ≡ i + suc n = omega arith in
-    ap (λ (l : List ℕ). f i ++ l) (all-more f n (suc i)) ∙ sym (append-assoc (f i) (allFrom f n (suc i)) (f (suc i + n))) ∙ ap (λ (j : ℕ). f i ++ allFrom f n (suc i) ++ f j) e
+    ap (λ (l : List ParserError). f i ++ l) (all-more f n (suc i)) ∙ sym (append-assoc (f i) (allFrom f n (suc i)) (f (suc i + n))) ∙ ap (λ (j : ℕ). f i ++ allFrom f n (suc i) ++ f j) e
 
-pub all-step : (f : ℕ → List ℕ) (n : ℕ) → allFrom f n 0 ++ f n ≡ allFrom f (n + 1) 0
+pub all-step : (f : ℕ → List ParserError) (n : ℕ) → allFrom f n 0 ++ f n ≡ allFrom f (n + 1) 0
 all-step f n =
     let e : suc n ≡ n + 1 = omega arith in
     let z : 0 + n ≡ n = omega arith in
     sym (ap (λ (m : ℕ). allFrom f m 0) (sym e) ∙ all-more f n 0 ∙ ap (λ (j : ℕ). allFrom f n 0 ++ f j) z)
 
-pub all-start : (f : ℕ → List ℕ) → [] ≡ allFrom f 0 0
+pub all-start : (f : ℕ → List ParserError) → [] ≡ allFrom f 0 0
 unfolding allFrom
 all-start f = refl
 
@@ -112,10 +113,10 @@ last-step n s c =
     ap (λ (m : ℕ). lastBelow m s c) e
 
 -- the same errors of two functions that agree
-all-same : (f g : ℕ → List ℕ) (n i : ℕ) → ((k : ℕ) → k < i + n → f k ≡ g k) → allFrom f n i ≡ allFrom g n i
+all-same : (f g : ℕ → List ParserError) (n i : ℕ) → ((k : ℕ) → k < i + n → f k ≡ g k) → allFrom f n i ≡ allFrom g n i
 unfolding allFrom
 all-same f g zero i h = refl
-all-same f g (suc n) i h = ap (λ (l : List ℕ). l ++ allFrom f n (suc i)) (h i (omega arith)) ∙ ap (λ (l : List ℕ). g i ++ l) (all-same f g n (suc i) (λ k b. h k (omega arith)))
+all-same f g (suc n) i h = ap (λ (l : List ParserError). l ++ allFrom f n (suc i)) (h i (omega arith)) ∙ ap (λ (l : List ParserError). g i ++ l) (all-same f g n (suc i) (λ k b. h k (omega arith)))
 
 -- a class is present where it has a last interval
 last-present : (n : ℕ) (s : Set) (c : ℕ) → n ≤ 23 → ltb (lastBelow n s c) 23 ≡ presentBelow n s c

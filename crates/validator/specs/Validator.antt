@@ -1,4 +1,4 @@
--- Validation (validator.rs): "Validation runs all three checks and joins their errors." An error is its four numbers.
+-- Validation (validator.rs): "Validation runs all three checks and joins their errors."
 use mathlib.Core.Bool.{Bool, true, false, cond, not, _&&_, _||_}
 use mathlib.Core.List.{List, [], _∷_, _++_}
 use Prim.Native.Nat.{ℕ, zero, suc, _+_, _%_}
@@ -6,27 +6,26 @@ use lib.Dec.{eqb, ltb}
 use lib.ListN.{getD}
 use Rattle.intervals.specs.Interval.{elem, Set, empty, insert, semitones, minorSecond, majorSecond, minorThird, majorThird, perfectFourth, diminishedFifth, perfectFifth, augmentedFifth, minorSixth, majorSixth, diminishedSeventh, majorSeventh, flatNinth, ninth, sharpNinth, eleventh, sharpEleventh, flatThirteenth, thirteenth}
 use Rattle.expression.specs.Expression.{onAdd, onExtension, onOmit}
-use Rattle.expression.specs.ParserError.{numbersOf}
 use Rattle.expression.specs.declared.expression.Exp.the-variants.{Power, Bass, Maj, Maj7, Minor, HalfDim, Dim, Dim7, Alt, Aug, Sus, Extension, Add, Omit, SlashBass}
 use Rattle.expression.specs.declared.expression.Exp.{Exp}
 use Rattle.expression.specs.declared.parser_error.ParserError.the-variants.{DuplicateModifier, InconsistentExtension, DuplicateExtension, InvalidExtension, WrongExpressionTarget, ThreeConsecutiveSemitones}
 use Rattle.expression.specs.declared.parser_error.ParserError.{ParserError}
 
 -- the error, if b
-abbrev pub only : Bool → ParserError → List ℕ
-only b e = cond b (numbersOf e) []
+abbrev pub only : Bool → ParserError → List ParserError
+only b e = cond b (e ∷ []) []
 
 -- what was found, or else r
-abbrev pub orElse : List ℕ → List ℕ → List ℕ
+abbrev pub orElse : List ParserError → List ParserError → List ParserError
 orElse [] r = r
 orElse (x ∷ xs) r = x ∷ xs
 
 -- the first error, and all errors, of f i, f (i + 1), .., n in number
-unfoldable pub firstFrom : (ℕ → List ℕ) → ℕ → ℕ → List ℕ
+unfoldable pub firstFrom : (ℕ → List ParserError) → ℕ → ℕ → List ParserError
 firstFrom f zero i = []
 firstFrom f (suc n) i = orElse (f i) (firstFrom f n (suc i))
 
-unfoldable pub allFrom : (ℕ → List ℕ) → ℕ → ℕ → List ℕ
+unfoldable pub allFrom : (ℕ → List ParserError) → ℕ → ℕ → List ParserError
 allFrom f zero i = []
 allFrom f (suc n) i = f i ++ allFrom f n (suc i)
 
@@ -40,13 +39,13 @@ abbrev pub omitTargets : List ℕ
 omitTargets = majorThird ∷ perfectFifth ∷ []
 
 -- `validate` of an expression
-abbrev pub wrongOf : Exp → List ℕ
+abbrev pub wrongOf : Exp → List ParserError
 wrongOf e =
     onAdd (onOmit [] (λ x p. only (not (elem x omitTargets)) (WrongExpressionTarget p)) e)
     (λ x p. only (not (elem x addTargets)) (WrongExpressionTarget p)) e
 
 -- `validate_expressions`: the first wrong target
-unfoldable pub firstWrong : List Exp → List ℕ
+unfoldable pub firstWrong : List Exp → List ParserError
 firstWrong [] = []
 firstWrong (e ∷ l) = orElse (wrongOf e) (firstWrong l)
 
@@ -73,30 +72,30 @@ unfoldable pub timesOf : List Exp → ℕ → ℕ
 timesOf [] p = 0
 timesOf (e ∷ l) p = cond (eqb (priorityOf e) p) 1 0 + timesOf l p
 
-abbrev pub repeatedAt : (ℕ → ℕ) → ℕ → List ℕ
+abbrev pub repeatedAt : (ℕ → ℕ) → ℕ → List ParserError
 repeatedAt counts p = only (ltb 1 (counts p)) (DuplicateModifier p)
 
 -- "Where several kinds of expression repeat, .. the least `priority` is reported"
-abbrev pub repeated : List Exp → List ℕ
+abbrev pub repeated : List Exp → List ParserError
 repeated l = firstFrom (repeatedAt (timesOf l)) 15 0
 
-abbrev pub expressionErrors : List Exp → List ℕ
+abbrev pub expressionErrors : List Exp → List ParserError
 expressionErrors l = orElse (firstWrong l) (repeated l)
 
 -- `validate_extensions`: intervals that are no extensions, and semitones that an extension before has
 abbrev pub badExtensions : List ℕ
 badExtensions = minorSecond ∷ majorSecond ∷ minorThird ∷ majorThird ∷ diminishedSeventh ∷ majorSeventh ∷ []
 
-abbrev pub faultAt : Set → ℕ → ℕ → List ℕ
-faultAt seen x p = cond (elem x badExtensions) (numbersOf (InvalidExtension p)) (only (seen (semitones x)) (DuplicateExtension p))
+abbrev pub faultAt : Set → ℕ → ℕ → List ParserError
+faultAt seen x p = cond (elem x badExtensions) (InvalidExtension p ∷ []) (only (seen (semitones x)) (DuplicateExtension p))
 
-abbrev pub faultOf : Set → Exp → List ℕ
+abbrev pub faultOf : Set → Exp → List ParserError
 faultOf seen e = onExtension [] (faultAt seen) e
 
 abbrev pub seeing : Set → Exp → Set
 seeing seen e = onExtension seen (λ x p. insert seen (semitones x)) e
 
-unfoldable pub extensionFault : Set → List Exp → List ℕ
+unfoldable pub extensionFault : Set → List Exp → List ParserError
 extensionFault seen [] = []
 extensionFault seen (e ∷ l) = orElse (faultOf seen e) (extensionFault (seeing seen e) l)
 
@@ -107,10 +106,10 @@ reported = majorThird ∷ perfectFifth ∷ perfectFifth ∷ majorSixth ∷ ninth
 abbrev pub others : List ℕ
 others = minorThird ∷ diminishedFifth ∷ augmentedFifth ∷ minorSixth ∷ flatNinth ∷ sharpNinth ∷ sharpEleventh ∷ flatThirteenth ∷ []
 
-abbrev pub conflictAt : Set → ℕ → List ℕ
+abbrev pub conflictAt : Set → ℕ → List ParserError
 conflictAt s i = only (s (getD reported i 0) && s (getD others i 0)) (InconsistentExtension (getD reported i 0))
 
-abbrev pub extensionErrors : List Exp → Set → List ℕ
+abbrev pub extensionErrors : List Exp → Set → List ParserError
 extensionErrors l s = orElse (extensionFault empty l) (allFrom (conflictAt s) 8 0)
 
 -- `validate_semitones`: is an interval below n in the set and in the class c of semitones?
@@ -132,14 +131,14 @@ lastBelow zero s c = 23
 lastBelow (suc n) s c = cond (s n && eqb (semitones n % 12) c) n (lastBelow n s c)
 
 -- where three are there, kind 10 with the last interval of each
-abbrev pub neighboursAt : (ℕ → Bool) → (ℕ → ℕ) → ℕ → List ℕ
+abbrev pub neighboursAt : (ℕ → Bool) → (ℕ → ℕ) → ℕ → List ParserError
 neighboursAt there last c = only (three there c) (ThreeConsecutiveSemitones (last c) (last ((c + 1) % 12)) (last ((c + 2) % 12)))
 
-unfoldable pub semitoneErrors : Set → List ℕ
+unfoldable pub semitoneErrors : Set → List ParserError
 semitoneErrors s = allFrom (neighboursAt (present s) (lastBelow 23 s)) 12 0
 
 -- is nothing in the list?
-abbrev pub isNil : List ℕ → Bool
+abbrev pub isNil : List ParserError → Bool
 isNil [] = true
 isNil (x ∷ l) = false
 
@@ -148,5 +147,5 @@ unfoldable pub setValid : Set → Bool
 setValid s = isNil (allFrom (conflictAt s) 8 0) && isNil (semitoneErrors s)
 
 -- `validate`: the errors of the expressions l and of the set s that they make
-unfoldable pub validationOf : List Exp → Set → List ℕ
+unfoldable pub validationOf : List Exp → Set → List ParserError
 validationOf l s = expressionErrors l ++ (extensionErrors l s ++ semitoneErrors s)

@@ -5,7 +5,7 @@ use Rattle.validator.proofs.fault.push.Statement.{statement}
 use Rattle.validator.proofs.fault.push.Tie as tie
 use Rattle.validator.specs.State.{errorOf}
 use borrow.Author.Needs.{needs}
-use mathlib.Core.Path.{refl, sym, ap}
+use mathlib.Core.Path.{sym, ap}
 use native.Mathlib.Omega.{arith}
 
 enum-told : tie.Need-enum-told
@@ -27,7 +27,7 @@ same-length : tie.Need-same-length
 same-length c = search needs
 
 returns-2 : tie.Need-returns-2
-returns-2 c = (wrote-as (sym (ap errorOf (c .before .before .before .before .before .f .given .1))) (wrote-one _ _ _ _ refl (c .before .before .before .before .before .before .before .before .pre) (c .before .before .store .ensures)), omega arith)
+returns-2 c = (wrote-as (sym (ap errorOf (c .before .before .before .before .before .f .given .1))) (wrote-one _ _ _ _ (c .before .before .before .before .before .before .before .before .pre) (c .before .before .store .ensures)), omega arith)
 
 pub push-spec : {M : Type 1} → statement M
 push-spec =
