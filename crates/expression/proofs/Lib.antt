@@ -1,1 +1,2 @@
 pub mod AllNumbers
+pub mod Wrote

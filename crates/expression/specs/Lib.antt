@@ -1,3 +1,4 @@
 pub mod ParserError
 pub mod Expression
 pub mod Bounds
+pub mod State

@@ -27,7 +27,7 @@ target-right true p e = tt
 target-right false p e = absurd (subst (λ (l : List ParserError). T (isNil l)) (sym e) tt)
 
 -- nothing was found, neither first nor later
-none-of : (a r : List ParserError) → orElse a r ≡ [] → (a ≡ []) × (r ≡ [])
+pub none-of : (a r : List ParserError) → orElse a r ≡ [] → (a ≡ []) × (r ≡ [])
 none-of [] r e = (refl, e)
 none-of (x ∷ a) r e = absurd (subst (λ (l : List ParserError). T (isNil l)) (sym e) tt)
 

@@ -22,7 +22,7 @@ use Rattle.expression.specs.declared.expression.Exp.{Exp}
 use Rattle.expression.specs.declared.parser_error.ParserError.the-variants.{InconsistentExtension}
 use Rattle.expression.specs.declared.parser_error.ParserError.{ParserError}
 use Rattle.house_text.proofs.Accepted.{spelled-valid}
-use Rattle.house_text.proofs.Allowed.{allowed-of, nil}
+use Rattle.house_text.proofs.Allowed.{allowed-of, nil, none-of}
 use Rattle.house_text.proofs.Back.{bass-back, kind-back}
 use Rattle.house_text.proofs.Beyond.{beyond, spelled-allowed}
 use Rattle.house_parts.proofs.Bools.{and-left, and-right, both-pass}
@@ -72,10 +72,6 @@ none-both : (a b : List ParserError) → a ++ b ≡ [] → (a ≡ []) × (b ≡ 
 none-both [] b e = (refl, e)
 none-both (x ∷ a) b e = cons-nil e
 
-none-else : (a r : List ParserError) → orElse a r ≡ [] → (a ≡ []) × (r ≡ [])
-none-else [] r e = (refl, e)
-none-else (x ∷ a) r e = cons-nil e
-
 -- what validation's test of the set says
 pub record SetValid (s : Set) : Type 0 where
   pub conflicts : allFrom (conflictAt s) 8 0 ≡ []
@@ -102,7 +98,7 @@ unfolding validationOf
 set-valid l s e =
     let a = none-both (expressionErrors l) (extensionErrors l s ++ semitoneErrors s) e in
     let b = none-both (extensionErrors l s) (semitoneErrors s) (a .1) in
-    (none-else (firstWrong l) (repeated l) (a .0) .0, record { conflicts = none-else (extensionFault empty l) (allFrom (conflictAt s) 8 0) (b .0) .1; semitones = b .1 })
+    (none-of (firstWrong l) (repeated l) (a .0) .0, record { conflicts = none-of (extensionFault empty l) (allFrom (conflictAt s) 8 0) (b .0) .1; semitones = b .1 })
 
 all-valid : (l : List Exp) (s : Set) → firstWrong l ≡ [] → repeated l ≡ [] → extensionFault empty l ≡ [] → SetValid s → validationOf l s ≡ []
 unfolding validationOf

@@ -7,13 +7,12 @@ use Prim.Native.Nat.{ℕ, zero, suc}
 use lib.ListN.{drop}
 use Rattle.expression.proofs.AllNumbers.{all-append}
 use Rattle.expression.specs.ParserError.{allNumbers, numbersOf}
-use Rattle.expression.specs.declared.expression.Exp.{Exp}
 use Rattle.expression.specs.declared.parser_error.ParserError.{ParserError}
 use Rattle.step.specs.declared.effect.Effect.{Effect}
 use Rattle.step.specs.declared.effect.OptionalError.the-variants as error
 use Rattle.step.specs.declared.effect.OptionalError.{OptionalError}
 use Rattle.token.specs.Token.{Token, typeOf}
-use Rattle.parser.specs.Parser.{Parsing, aheadOf, applied, blank, effectAt, errorOf, gainsOf, hereOf, itself, nextAt, parseBy, parseOf, rootEffect, rootOf, stackTurn, tokenTurn, walk}
+use Rattle.parser.specs.Parser.{Parsing, aheadOf, applied, blank, effectAt, errorOf, hereOf, itself, nextAt, parseBy, parseOf, rootEffect, rootOf, stackTurn, tokenTurn, walk}
 
 -- what has been found, with the numbers es in place of the errors
 abbrev keeping : List ℕ → Parsing ParserError → Parsing ℕ
@@ -22,7 +21,7 @@ keeping es s = record { skip = s .skip; count = s .count; context = s .context; 
 abbrev coded : Parsing ParserError → Parsing ℕ
 coded s = keeping (allNumbers (s .errs)) s
 
-error-coded : (e : OptionalError) → allNumbers (errorOf itself e) ≡ errorOf numbersOf e
+pub error-coded : (e : OptionalError) → allNumbers (errorOf itself e) ≡ errorOf numbersOf e
 error-coded error.None = refl
 error-coded (error.Some e) = refl
 

@@ -1,11 +1,11 @@
 -- The state after an effect: what was stored is what the effect says, and the bounds still hold.
 use mathlib.Core.Bool.{Bool, true, false, cond}
-use mathlib.Core.List.{List, []}
+use mathlib.Core.List.{List, [], _++_}
 use mathlib.Core.Path.{_≡_, refl, sym, ap, subst, _∙_}
-use Prim.Native.Nat.{ℕ, _+_, _≤_, _<_}
+use Prim.Native.Nat.{ℕ, _+_, _*_, _≤_, _<_}
 use native.Mathlib.Omega.{arith}
 use lib.IntN.{ℤ}
-use lib.ListN.{length, getD}
+use lib.ListN.{length, getD, take}
 use lib.Signed.{mag}
 use mir.Facts.{toZ-ofZ}
 use mir.Syntax.{w16}
@@ -13,7 +13,7 @@ use mir.Val.{ofZ, toZ}
 use Rattle.note.specs.declared.OptionalNote.the-variants as optional
 use Rattle.note.specs.declared.OptionalNote.{OptionalNote}
 use Rattle.note.specs.declared.RootModifier.the-variants.{Sharp, Flat}
-use Rattle.expression.specs.ParserError.{numbersOf}
+use Rattle.expression.specs.State.{Wrote}
 use Rattle.expression.specs.declared.expression.Exp.{Exp}
 use Rattle.step.proofs.Laws.{inside-small}
 use Rattle.step.specs.Bounds.{Small, gainsCount}
@@ -23,6 +23,8 @@ use Rattle.step.specs.declared.effect.Effect.{Effect}
 use Rattle.step.specs.declared.effect.Gains.the-variants.{None, One, Two}
 use Rattle.step.specs.declared.effect.Gains.{Gains}
 use Rattle.step.specs.declared.effect.Here.{Here}
+use Rattle.step.specs.declared.effect.OptionalError.the-variants as error
+use Rattle.step.specs.declared.effect.OptionalError.{OptionalError}
 use Rattle.lookahead.specs.declared.Ahead.{Ahead}
 use Rattle.lookahead.specs.declared.Next.{Next}
 use Rattle.token.specs.Token.{typeOf}
@@ -30,9 +32,10 @@ use Rattle.token.specs.declared.Bracket.the-variants.{Opens, Closes, Ends, Othe
 use Rattle.token.specs.declared.Bracket.{Bracket}
 use Rattle.token.specs.declared.TokenType.the-variants as type
 use Rattle.token.specs.declared.TokenType.{TokenType}
-use Rattle.parser.specs.Parser.{Parsing, errorOf, gainsOf, rootEffect}
-use Rattle.parser.specs.State.{EffectDone, Fits, Gained, Ready, Stored, Foreseen, aheadIn, reachOf, effectIn, hereIn, start}
+use Rattle.parser.specs.Parser.{Parsing, errorOf, gainsOf, itself, rootEffect}
+use Rattle.parser.specs.State.{EffectDone, Fits, Gained, Ready, Foreseen, aheadIn, reachOf, effectIn, hereIn, start}
 use Rattle.parser.specs.declared.state.State.{State}
+use Rattle.parser.proofs.Coded.{error-coded}
 use Rattle.parser.proofs.Lists.{gained-none, gained-numbered}
 
 pub gains-length : (g : Gains) → length (gainsOf g) ≡ gainsCount g
@@ -40,26 +43,33 @@ gains-length None = refl
 gains-length (One e) = refl
 gains-length (Two e f) = refl
 
+-- an effect has one error or none
+pub error-most : (e : OptionalError) → length (errorOf itself e) ≤ 1
+error-most error.None = omega arith
+error-most (error.Some e) = omega arith
+
 abbrev after : State → Effect → ℕ → ℕ → State
 after st e n m = record { at = st .at + 1 + e .taken; count = e .count; context = e .context; errors = n; exps = m }
 
 abbrev found : Effect → List ℕ → List Exp → Parsing ℕ
 found e es xs = record { skip = 0; count = e .count; context = e .context; errs = es; exps = xs }
 
-pub did-effect : (st : State) (e : Effect) {n m : ℕ} {es es′ xs xs′ : List ℕ} → Stored (st .errors) n (errorOf numbersOf (e .error)) es es′ → Gained (st .exps) m (gainsOf (e .gains)) xs xs′
+pub did-effect : (st : State) (e : Effect) {n m : ℕ} {es es′ xs xs′ : List ℕ} → Wrote (st .errors) n (errorOf itself (e .error)) es es′ → Gained (st .exps) m (gainsOf (e .gains)) xs xs′
     → Ready st → st .at < 257 → Fits st e → EffectDone e st (after st e n m) es es′ xs xs′
 did-effect st e {n} {m} {es} {es′} {xs} {xs′} s g ready h fits =
     let k : m ≡ st .exps + gainsCount (e .gains) = rw (← gains-length (e .gains)) (g .count) in
+    let l = s .list ∙ ap (λ (q : List ℕ). take (4 * st .errors) es ++ q) (error-coded (e .error)) in
+    let one = error-most (e .error) in
     record {
-      same = λ i. found e (s .list i) (g .list i);
-      kept = record { more = s .least; gains = omega (arith, k); rest = s .rest; others = g .rest; numbered = gained-numbered g };
+      same = λ i. found e (l i) (g .list i);
+      kept = record { more = omega (arith, s .count); gains = omega (arith, k); rest = s .rest; others = g .rest; numbered = gained-numbered g };
       moved = refl;
       ready = record {
         small = omega (arith, fits .taken);
-        few = omega (arith, s .most, ready .few);
+        few = omega (arith, s .count, one, ready .few);
         fewer = omega (arith, k, fits .gained, ready .fewer);
         bound = omega (arith, fits .counted, ready .bound);
-        errs = omega (arith, s .most, ready .few);
+        errs = omega (arith, s .count, one, ready .few);
         exps = omega (arith, k, fits .gained, ready .fewer);
       };
     }
@@ -127,7 +137,7 @@ fits-root n nx {e} h = subst (Fits start) (sym h) (by n)
     by optional.None = record { gained = omega arith; counted = omega arith; taken = omega arith }
 
 -- the state after the root: its effect takes at most one token more, adds no expression and at most one error
-pub begun : (root : OptionalNote) (nx : Next) (xs : List ℕ) {e : Effect} {n : ℕ} {es es′ : List ℕ} → e ≡ rootEffect root nx → Stored 0 n (errorOf numbersOf (e .error)) es es′
+pub begun : (root : OptionalNote) (nx : Next) (xs : List ℕ) {e : Effect} {n : ℕ} {es es′ : List ℕ} → e ≡ rootEffect root nx → Wrote 0 n (errorOf itself (e .error)) es es′
     → EffectDone (rootEffect root nx) start (record { at = 1 + e .taken; count = toZ w16 (ofZ w16 (e .count)); context = e .context; errors = n; exps = 0 }) es es′ xs xs
 begun root nx xs {e} {n} {es} {es′} h s =
     let none : gainsOf (e .gains) ≡ [] = ap (λ (d : Effect). gainsOf (d .gains)) h ∙ no-gains root in

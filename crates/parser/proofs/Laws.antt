@@ -16,15 +16,13 @@ use Rattle.step.specs.declared.effect.Effect.{Effect}
 use Rattle.step.specs.declared.effect.Gains.the-variants as gains
 use Rattle.step.specs.declared.effect.Gains.{Gains}
 use Rattle.step.specs.declared.effect.Here.{Here}
-use Rattle.step.specs.declared.effect.OptionalError.the-variants as error
-use Rattle.step.specs.declared.effect.OptionalError.{OptionalError}
 use Rattle.lookahead.specs.declared.Ahead.{Ahead}
 use Rattle.lookahead.specs.declared.Next.{Next}
 use Rattle.token.specs.Token.{Token, bracketKind, typeOf}
 use Rattle.token.specs.declared.TokenType.{TokenType}
 use Rattle.parser.specs.All.{All}
 use Rattle.parser.specs.Parser.{Parsing, aheadOf, applied, blank, effectAt, errorOf, gainsOf, hereOf, itself, nextAt, parseOf, rootEffect, rootOf, skipping, stackTurn, tokenTurn, walk}
-use Rattle.parser.proofs.Effects.{gains-length}
+use Rattle.parser.proofs.Effects.{error-most, gains-length}
 
 -- n tokens led from s to r: each added at most one error and one expression, and a sus still owes its expression
 record Grown (n : ℕ) (s r : Parsing ParserError) : Type 0 where
@@ -48,7 +46,7 @@ grown-then a b =
     }
 
 -- what holds of each of two lists' elements holds of each of both
-all-append : {A : Type 0} (P : A → Type 0) (a b : List A) → All P a → All P b → All P (a ++ b)
+pub all-append : {A : Type 0} (P : A → Type 0) (a b : List A) → All P a → All P b → All P (a ++ b)
 all-append P [] b h k = k
 all-append P (x ∷ a) b h k = (h .0, all-append P a b (h .1) k)
 
@@ -57,11 +55,6 @@ all-gains : (g : Gains) → SoundGains g → All Sound (gainsOf g)
 all-gains gains.None h = tt
 all-gains (gains.One e) h = (h, tt)
 all-gains (gains.Two e f) h = (h .0, (h .1, tt))
-
--- an effect has one error or none
-error-most : (e : OptionalError) → length (errorOf itself e) ≤ 1
-error-most error.None = omega arith
-error-most (error.Some e) = omega arith
 
 -- an effect that gains little, and only what is sound, is such a token
 grown-effect : (e : Effect) (s : Parsing ParserError) → gainsCount (e .gains) + susBit (e .context) ≤ 1 + susBit (s .context) → SoundGains (e .gains) → Grown 1 s (applied itself e s)

@@ -2,7 +2,7 @@
 mod Lists
 pub mod Rows
 mod Six
-mod Effects
 mod Coded
+mod Effects
 mod Walk
 pub mod Laws

@@ -1,42 +1,14 @@
--- What a store behind the first errors or expressions leaves.
-use mathlib.Core.List.{List, [], _∷_, _++_, map, append-assoc}
+-- What a store behind the first expressions leaves.
+use mathlib.Core.List.{List, [], _∷_, _++_, map, append-assoc, append-nil}
 use mathlib.Core.Path.{_≡_, refl, sym, ap, _∙_}
-use Prim.Native.Nat.{ℕ, suc, _+_, _*_, _-_, _≤_, _<_}
+use Prim.Native.Nat.{ℕ, suc, _+_, _<_}
 use native.Mathlib.Omega.{arith}
-use lib.ListN.{length, take, drop, set, length-append}
-use lib.Seq.{drop-at, drop-drop, drop-set-lt, length-take-le, take-at, take-suc-set}
+use lib.ListN.{length, take, set}
+use lib.Seq.{drop-set-lt, take-suc-set}
+use Rattle.expression.proofs.Wrote.{later}
 use Rattle.expression.specs.Expression.{expNumber, expOf}
 use Rattle.expression.specs.declared.expression.Exp.{Exp}
-use Rattle.parser.specs.State.{Stored, Gained, Numbered, expsOf}
-
--- what agrees from n on agrees from any later place on
-pub later : {A : Type 0} (a b : List A) (n m : ℕ) → n ≤ m → drop n a ≡ drop n b → drop m a ≡ drop m b
-later a b n m h e =
-    let k : n + (m - n) ≡ m = omega arith in
-    ap (λ (j : ℕ). drop j a) (sym k) ∙ sym (drop-drop (m - n) n a) ∙ ap (drop (m - n)) e ∙ drop-drop (m - n) n b ∙ ap (λ (j : ℕ). drop j b) k
-
-append-nil : {A : Type 0} (l : List A) → l ++ [] ≡ l
-append-nil [] = refl
-append-nil {A} (x ∷ l) = ap (λ (q : List A). x ∷ q) (append-nil l)
-
--- no error was stored
-pub stored-none : (n : ℕ) (es : List ℕ) → Stored n n [] es es
-stored-none n es = record { list = sym (append-nil (take (4 * n) es)); rest = refl; least = omega arith; most = omega arith }
-
--- four numbers were stored
-pub stored-one : (n : ℕ) (row es es′ : List ℕ) → length row ≡ 4 → 4 * n + 4 ≤ length es → es′ ≡ take (4 * n) es ++ row ++ drop (4 * n + 4) es → Stored n (n + 1) row es es′
-stored-one n row es es′ four h e =
-    let k : length (take (4 * n) es ++ row) ≡ 4 * (n + 1) = length-append (take (4 * n) es) row ∙ counted in
-    let m : 4 * n + 4 ≡ 4 * (n + 1) = omega arith in
-    record {
-      list = ap (take (4 * (n + 1))) e ∙ take-at (take (4 * n) es ++ row) (drop (4 * n + 4) es) (4 * (n + 1)) k;
-      rest = ap (drop (4 * (n + 1))) e ∙ drop-at (take (4 * n) es ++ row) (drop (4 * n + 4) es) (4 * (n + 1)) k ∙ ap (λ (j : ℕ). drop j es) m;
-      least = omega arith;
-      most = omega arith;
-    }
-  where
-    counted : length (take (4 * n) es) + length row ≡ 4 * (n + 1)
-    counted = let j : length (take (4 * n) es) ≡ 4 * n = length-take-le (4 * n) es (omega arith) in omega (arith, j, four)
+use Rattle.parser.specs.State.{Gained, Numbered, expsOf}
 
 map-append : {A B : Type 0} (f : A → B) (a b : List A) → map f (a ++ b) ≡ map f a ++ map f b
 map-append f [] b = refl

@@ -11,6 +11,7 @@ use lib.Seq.{drop-drop}
 use Rattle.note.specs.declared.OptionalNote.{OptionalNote}
 use Rattle.note.specs.declared.RootModifier.{RootModifier}
 use Rattle.lookahead.specs.Next.{noteFrom, signIn}
+use Rattle.expression.proofs.Wrote.{later}
 use Rattle.expression.specs.Expression.{expNumber}
 use Rattle.expression.specs.ParserError.{numbersOf}
 use Rattle.step.specs.Step.{insideOf}
@@ -26,7 +27,6 @@ use Rattle.parser.specs.Parser.{Parsing, aheadOf, applied, blank, effect
 use Rattle.parser.specs.State.{EffectDone, Kept, Ready, TookToken, Read, Parsed, aheadIn, bracketBy, bracketIn, effectIn, expsOf, hereIn, nextIn, stackBy, start, view}
 use Rattle.parser.specs.declared.state.State.{State}
 use Rattle.parser.proofs.Coded.{parse-errors, parse-exps}
-use Rattle.parser.proofs.Lists.{later}
 use Rattle.parser.proofs.Rows.{ahead-is, drop-none, drop-row, next-is}
 
 -- tokens that are taken already are passed over

@@ -140,14 +140,7 @@ pub record Tokens (ks ps ls : List ℕ) : Type 0 where
   pub lens : length ls ≡ length ks
   pub ranged : Ranged 1000 1000 (rows ks ps ls)
 
--- the first n errors became the first r, with `more` behind them, and the rest of the array is untouched
-pub record Stored (n r : ℕ) (more : List ℕ) (es es′ : List ℕ) : Type 0 where
-  pub list : take (4 * r) es′ ≡ take (4 * n) es ++ more
-  pub rest : drop (4 * r) es′ ≡ drop (4 * r) es
-  pub least : n ≤ r
-  pub most : r ≤ n + 1
-
--- and the same of the expressions, each stored as its number
+-- the first n expressions became the first r, each stored as its number, with `more` behind them, and the rest of the array is untouched
 pub record Gained (n r : ℕ) (more : List Exp) (xs xs′ : List ℕ) : Type 0 where
   pub numbers : take r xs′ ≡ take n xs ++ map expNumber more
   pub list : expsOf r xs′ ≡ expsOf n xs ++ more

@@ -3,9 +3,9 @@ ghost use mathlib.Core.List.{[], _∷_};
 ghost use Prim.Native.Nat.{_+_, _*_, _≤_, _<_};
 ghost use lib.ListN.{length};
 ghost use Rattle.step.specs.Bounds.{gainsCount};
-ghost use Rattle.expression.specs.ParserError.{numbersOf};
-ghost use Rattle.parser.specs.Parser.{errorOf, gainsOf};
-ghost use Rattle.parser.specs.State.{Ready, Fits, Space, Stored, Gained, EffectDone};
+ghost use Rattle.expression.specs.State.{Wrote};
+ghost use Rattle.parser.specs.Parser.{errorOf, gainsOf, itself};
+ghost use Rattle.parser.specs.State.{Ready, Fits, Space, Gained, EffectDone};
 use crate::state::State;
 use expression::expression::Exp;
 use expression::parser_error::store;
@@ -16,7 +16,7 @@ use step::effect::OptionalError;
 // Writes the error behind the first n, if there is one, and answers how many there are.
 pub(crate) fn push_error(errs: &mut [u16], n: usize, e: OptionalError) -> usize
     requires { ⌜ 4 * n + 4 ≤ length (now errs) ⌝ }
-    ensures { λ r. ⌜ Stored n r (errorOf numbersOf e) (now (errs .entry)) (now (errs .exit)) ⌝ }
+    ensures { λ r. ⌜ Wrote n r (errorOf itself e) (now (errs .entry)) (now (errs .exit)) ⌝ }
 {
     match e {
         OptionalError::None => n,

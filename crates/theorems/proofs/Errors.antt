@@ -2,7 +2,7 @@
 -- each check of validation; the lists are appended. Assumes nothing.
 use mathlib.Core.Bool.{Bool, true, false, not, _&&_, _||_, cond}
 use mathlib.Core.List.{List, [], _∷_, _++_}
-use mathlib.Core.Path.{_≡_, refl, subst}
+use mathlib.Core.Path.{_≡_, subst}
 use Prim.Native.Nat.{ℕ, zero, suc, _+_, _*_, _%_, _≤_, _<_}
 use native.Mathlib.Omega.{arith}
 use lib.Dec.{T, eqb, ltb}
@@ -38,7 +38,7 @@ use Rattle.token.specs.declared.Bracket.{Bracket}
 use Rattle.token.specs.declared.TokenType.the-variants as type
 use Rattle.token.specs.declared.TokenType.{TokenType}
 use Rattle.validator.specs.Validator.{only, orElse, firstFrom, allFrom, wrongOf, firstWrong, timesOf, repeatedAt, repeated, expressionErrors, addTargets, omitTargets, badExtensions, faultOf, seeing, extensionFault, reported, others, conflictAt, extensionErrors, lastBelow, neighboursAt, present, three, semitoneErrors, validationOf}
-use Rattle.parser.proofs.Laws.{errors-most}
+use Rattle.parser.proofs.Laws.{all-append, errors-most}
 
 -- 1 to 17 but for 13
 abbrev pub occurs : ℕ → Bool
@@ -46,10 +46,6 @@ occurs k = ltb 0 k && (ltb k 18 && not (eqb k 13))
 
 abbrev Occurs : ParserError → Type 0
 Occurs e = T (occurs (rowOf e .kind))
-
-both-occur : (a b : List ParserError) → All Occurs a → All Occurs b → All Occurs (a ++ b)
-both-occur [] b h k = k
-both-occur (e ∷ a) b h k = (h .0, both-occur a b (h .1) k)
 
 -- the kind of an error is the first of its four numbers
 pub kind-at : (l : List ParserError) → All Occurs l → (i : ℕ) → i < length l → T (occurs (getD (allNumbers l) (4 * i) 0))
@@ -147,7 +143,7 @@ turn-occur : (n : ℕ) (stk : List ℕ) (s : Parsing ParserError) (t : Token) (t
     → All Occurs (tokenTurn itself n stk s t ts .errs)
 turn-occur zero stk s t ts o =
     let e = effectAt stk (typeOf (t .kind)) (hereOf t s) (aheadOf ts) in
-    both-occur (s .errs) (errorOf itself (e .error)) o
+    all-append Occurs (s .errs) (errorOf itself (e .error)) o
     (error-occurs (e .error) (effect-calm stk (typeOf (t .kind)) (hereOf t s) (aheadOf ts)))
 turn-occur (suc n) stk s t ts o = o
 
@@ -180,7 +176,7 @@ nil-errors n = record { few = omega arith; each = tt }
 
 -- those of a, and then those of b
 both : {n m : ℕ} (r : ℕ) (a b : List ParserError) → n + m ≤ r → Errors n a → Errors m b → Errors r (a ++ b)
-both r a b h e f = record { few = omega (arith, h, e .few, f .few, length-append a b); each = both-occur a b (e .each) (f .each) }
+both r a b h e f = record { few = omega (arith, h, e .few, f .few, length-append a b); each = all-append Occurs a b (e .each) (f .each) }
 
 wider : {n : ℕ} (m : ℕ) {l : List ParserError} → n ≤ m → Errors n l → Errors m l
 wider m h e = record { few = omega (arith, h, e .few); each = e .each }

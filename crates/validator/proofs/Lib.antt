@@ -2,5 +2,4 @@
 pub mod Choices
 mod Walks
 mod Arrays
-mod Lists
 mod Specimens

@@ -1,12 +1,10 @@
 -- Bookkeeping of contracts between our own functions; no promise of an entry point rests on it.
--- What the code's values stand for, and what it does to the lent list.
+-- What the code's values stand for.
 use mathlib.Core.Bool.{Bool, true, false}
-use mathlib.Core.List.{List, [], _∷_, _++_}
-use mathlib.Core.Path.{_≡_}
-use Prim.Native.Nat.{ℕ, _+_, _*_}
+use mathlib.Core.List.{List, [], _∷_}
+use Prim.Native.Nat.{ℕ}
 use lib.Dec.{ltb}
-use lib.ListN.{length, take, drop, getD}
-use Rattle.expression.specs.ParserError.{allNumbers}
+use lib.ListN.{getD}
 use Rattle.expression.specs.declared.parser_error.ParserError.{ParserError}
 use Rattle.validator.specs.Validator.{neighboursAt}
 use Rattle.validator.specs.declared.expressions.Counts.{Counts}
@@ -34,9 +32,3 @@ lastsOf l c = getD (l .of) c 0
 -- the error of the class c and the next two, by the last interval of each; 23 is none
 abbrev pub neighboursIn : (ℕ → ℕ) → ℕ → List ParserError
 neighboursIn last = neighboursAt (λ c. ltb (last c) 23) last
-
--- the first n errors became the first r, with `more` behind them, and the rest of the list is untouched
-pub record Wrote (n r : ℕ) (more : List ParserError) (es es′ : List ℕ) : Type 0 where
-  pub list : take (4 * r) es′ ≡ take (4 * n) es ++ allNumbers more
-  pub rest : drop (4 * r) es′ ≡ drop (4 * r) es
-  pub count : r ≡ n + length more

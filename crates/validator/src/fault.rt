@@ -2,7 +2,8 @@
 ghost use mathlib.Core.Path.{_≡_};
 ghost use Prim.Native.Nat.{_+_, _*_, _≤_};
 ghost use lib.ListN.{length};
-ghost use Rattle.validator.specs.State.{isSome, errorOf, Wrote};
+ghost use Rattle.expression.specs.State.{Wrote};
+ghost use Rattle.validator.specs.State.{isSome, errorOf};
 ghost use Rattle.validator.specs.Validator.{only};
 use expression::parser_error::ParserError;
 use expression::parser_error::store;

@@ -5,7 +5,7 @@ ghost use Prim.Native.Nat.{_≤_};
 ghost use lib.ListN.{length};
 ghost use Rattle.intervals.specs.Stored.{members};
 ghost use Rattle.expression.specs.Expression.{expOf};
-ghost use Rattle.validator.specs.State.{Wrote};
+ghost use Rattle.expression.specs.State.{Wrote};
 ghost use Rattle.validator.specs.Validator.{setValid, validationOf};
 use expressions::validate_expressions;
 use extensions::has_conflict;

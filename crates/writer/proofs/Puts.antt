@@ -5,14 +5,9 @@ use mathlib.Core.Path.{_≡_, refl, sym, ap, _∙_, subst}
 use Prim.Native.Nat.{ℕ, suc, _+_, _-_, _≤_, _<_}
 use native.Mathlib.Omega.{arith}
 use lib.ListN.{length, take, drop, getD, set, length-append, length-drop, take-append-drop}
-use lib.Seq.{drop-drop, drop-set-lt, length-take-le, take-suc, take-suc-set}
+use lib.Seq.{drop-set-lt, length-take-le, take-suc, take-suc-set}
+use Rattle.expression.proofs.Wrote.{later}
 use Rattle.writer.specs.State.{Put}
-
--- what agrees from n on agrees from any later place on
-later : (a b : List ℕ) (n m : ℕ) → n ≤ m → drop n a ≡ drop n b → drop m a ≡ drop m b
-later a b n m h e =
-    let k : n + (m - n) ≡ m = omega arith in
-    ap (λ (j : ℕ). drop j a) (sym k) ∙ sym (drop-drop (m - n) n a) ∙ ap (drop (m - n)) e ∙ drop-drop (m - n) n b ∙ ap (λ (j : ℕ). drop j b) k
 
 -- nothing was written
 pub put-none : (n : ℕ) (bs : List ℕ) → Put n n [] bs bs

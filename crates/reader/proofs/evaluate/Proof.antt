@@ -5,7 +5,7 @@ use Rattle.expression.specs.Expression.{expOf}
 use Rattle.reader.proofs.Judge.{gave-errors, gave-none, untouched}
 use Rattle.reader.proofs.evaluate.Statement.{statement}
 use Rattle.reader.specs.Reader.{accepted, countOf, numberOf}
-use Rattle.validator.specs.State.{Wrote}
+use Rattle.expression.specs.State.{Wrote}
 use Rattle.validator.specs.Validator.{validationOf}
 use borrow.Author.Needs.{needs}
 use mathlib.Core.List.{map}

@@ -1,6 +1,6 @@
 -- Each check writes behind the one before.
 -- Assumes nothing.
-use Rattle.validator.proofs.Lists.{wrote-then}
+use Rattle.expression.proofs.Wrote.{wrote-then}
 use Rattle.validator.proofs.validate.Statement.{statement}
 use Rattle.validator.proofs.validate.Tie as tie
 use Rattle.validator.specs.Validator.{validationOf}

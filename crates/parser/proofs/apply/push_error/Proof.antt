@@ -1,10 +1,9 @@
 -- By whether there is an error.
-use Rattle.parser.proofs.Lists.{stored-none, stored-one}
+use Rattle.expression.proofs.Wrote.{wrote-none, wrote-one}
 use Rattle.parser.proofs.apply.push_error.Statement.{statement}
-use Rattle.expression.specs.ParserError.{numbersOf}
-use Rattle.parser.specs.Parser.{errorOf}
+use Rattle.parser.specs.Parser.{errorOf, itself}
 use borrow.Author.Needs.{needs}
-use mathlib.Core.Path.{ap, refl}
+use mathlib.Core.Path.{ap}
 use Rattle.parser.proofs.apply.push_error.Tie as tie
 
 enum-told : tie.Need-enum-told
@@ -20,13 +19,13 @@ add-result : tie.Need-add-result
 add-result c = search needs
 
 returns : tie.Need-returns
-returns c = rw (ap (errorOf numbersOf) (c .enum-told .given .1)) (stored-none _ _)
+returns c = rw (ap (errorOf itself) (c .enum-told .given .1)) (wrote-none _ _)
 
 same-length : tie.Need-same-length
 same-length c = search needs
 
 returns-2 : tie.Need-returns-2
-returns-2 c = rw (ap (errorOf numbersOf) (c .before .before .before .before .before .e .given .1)) (stored-one _ _ _ _ refl (c .before .before .before .before .before .before .before .before .pre) (c .before .before .store .ensures))
+returns-2 c = rw (ap (errorOf itself) (c .before .before .before .before .before .e .given .1)) (wrote-one _ _ _ _ (c .before .before .before .before .before .before .before .before .pre) (c .before .before .store .ensures))
 
 pub push-error-spec : {M : Type 1} → statement M
 push-error-spec =

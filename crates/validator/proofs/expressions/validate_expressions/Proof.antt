@@ -1,6 +1,6 @@
 -- The error that was found is written.
 -- Assumes nothing.
-use Rattle.validator.proofs.Lists.{wrote-as}
+use Rattle.expression.proofs.Wrote.{wrote-as}
 use Rattle.validator.proofs.expressions.validate_expressions.Statement.{statement}
 use Rattle.validator.proofs.expressions.validate_expressions.Tie as tie
 use borrow.Author.Needs.{needs}

@@ -2,11 +2,11 @@
 -- Assumes nothing.
 use Prim.Native.Nat.{_-_, _≤_, _+_}
 use Rattle.intervals.specs.Stored.{members}
-use Rattle.validator.proofs.Lists.{wrote-none, wrote-then, wrote-as}
+use Rattle.expression.proofs.Wrote.{wrote-none, wrote-then, wrote-as}
 use Rattle.validator.proofs.Walks.{all-start, all-step}
 use Rattle.validator.proofs.extensions.push_conflicts.Statement.{statement}
 use Rattle.validator.proofs.extensions.push_conflicts.Tie as tie
-use Rattle.validator.specs.State.{Wrote}
+use Rattle.expression.specs.State.{Wrote}
 use Rattle.validator.specs.Validator.{allFrom, conflictAt}
 use borrow.Author.Needs.{needs}
 use lib.ListN.{length}

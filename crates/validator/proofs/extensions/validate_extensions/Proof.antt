@@ -2,7 +2,7 @@
 -- Assumes nothing.
 use Rattle.intervals.specs.Stored.{members}
 use Rattle.validator.proofs.Choices.{found, passed}
-use Rattle.validator.proofs.Lists.{wrote-as}
+use Rattle.expression.proofs.Wrote.{wrote-as}
 use Rattle.validator.proofs.extensions.validate_extensions.Statement.{statement}
 use Rattle.validator.proofs.extensions.validate_extensions.Tie as tie
 use Rattle.validator.specs.Validator.{allFrom, conflictAt}

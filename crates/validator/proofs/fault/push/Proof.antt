@@ -1,6 +1,6 @@
 -- By whether there is an error.
 -- Assumes nothing.
-use Rattle.validator.proofs.Lists.{wrote-none, wrote-one, wrote-as}
+use Rattle.expression.proofs.Wrote.{wrote-none, wrote-one, wrote-as}
 use Rattle.validator.proofs.fault.push.Statement.{statement}
 use Rattle.validator.proofs.fault.push.Tie as tie
 use Rattle.validator.specs.State.{errorOf}

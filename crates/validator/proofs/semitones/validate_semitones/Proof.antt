@@ -2,11 +2,12 @@
 -- Assumes nothing.
 use Prim.Native.Nat.{ℕ, _-_, _≤_, _+_}
 use Rattle.intervals.specs.Stored.{members}
-use Rattle.validator.proofs.Lists.{wrote-none, wrote-then, wrote-as}
+use Rattle.expression.proofs.Wrote.{wrote-none, wrote-then, wrote-as}
 use Rattle.validator.proofs.Walks.{all-start, all-step, semitones-same}
 use Rattle.validator.proofs.semitones.validate_semitones.Statement.{statement}
 use Rattle.validator.proofs.semitones.validate_semitones.Tie as tie
-use Rattle.validator.specs.State.{Wrote, lastsOf, neighboursIn}
+use Rattle.expression.specs.State.{Wrote}
+use Rattle.validator.specs.State.{lastsOf, neighboursIn}
 use Rattle.validator.specs.Validator.{allFrom}
 use borrow.Author.Needs.{needs}
 use lib.ListN.{length}

@@ -6,13 +6,13 @@ use Prim.Native.Nat.{ℕ, _+_, _*_, _-_, _≤_}
 use native.Mathlib.Omega.{arith}
 use lib.ListN.{length, take, drop, length-append}
 use lib.Seq.{drop-at, drop-drop, length-take-le, take-at}
 use Rattle.expression.proofs.AllNumbers.{all-append}
 use Rattle.expression.specs.ParserError.{allNumbers, numbersOf}
 use Rattle.expression.specs.declared.parser_error.ParserError.{ParserError}
-use Rattle.validator.specs.State.{Wrote}
+use Rattle.expression.specs.State.{Wrote}
 
 -- what agrees from n on agrees from any later place on
-later : (a b : List ℕ) (n m : ℕ) → n ≤ m → drop n a ≡ drop n b → drop m a ≡ drop m b
+pub later : {A : Type 0} (a b : List A) (n m : ℕ) → n ≤ m → drop n a ≡ drop n b → drop m a ≡ drop m b
 later a b n m h e =
     let k : n + (m - n) ≡ m = omega arith in
     ap (λ (j : ℕ). drop j a) (sym k) ∙ sym (drop-drop (m - n) n a) ∙ ap (drop (m - n)) e ∙ drop-drop (m - n) n b ∙ ap (λ (j : ℕ). drop j b) k
