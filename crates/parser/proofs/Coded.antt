@@ -9,9 +9,8 @@ use Rattle.expression.proofs.AllNumbers.{all-append}
 use Rattle.expression.specs.ParserError.{allNumbers, numbersOf}
 use Rattle.expression.specs.declared.parser_error.ParserError.{ParserError}
 use Rattle.step.specs.declared.effect.Effect.{Effect}
-use Rattle.step.specs.declared.effect.OptionalError.the-variants as error
-use Rattle.step.specs.declared.effect.OptionalError.{OptionalError}
 use Rattle.token.specs.Token.{Token, typeOf}
+use Rattle.parser.proofs.Effects.{error-coded}
 use Rattle.parser.specs.Parser.{Parsing, aheadOf, applied, blank, effectAt, errorOf, hereOf, itself, nextAt, parseBy, parseOf, rootEffect, rootOf, stackTurn, tokenTurn, walk}
 
 -- what has been found, with the numbers es in place of the errors
@@ -20,10 +19,6 @@ keeping es s = record { skip = s .skip; count = s .count; context = s .context; 
 
 abbrev coded : Parsing ParserError → Parsing ℕ
 coded s = keeping (allNumbers (s .errs)) s
-
-pub error-coded : (e : OptionalError) → allNumbers (errorOf itself e) ≡ errorOf numbersOf e
-error-coded error.None = refl
-error-coded (error.Some e) = refl
 
 applied-coded : (e : Effect) (s : Parsing ParserError) → coded (applied itself e s) ≡ applied numbersOf e (coded s)
 applied-coded e s =

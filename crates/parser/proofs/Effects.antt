@@ -13,6 +13,7 @@ use mir.Val.{ofZ, toZ}
 use Rattle.note.specs.declared.OptionalNote.the-variants as optional
 use Rattle.note.specs.declared.OptionalNote.{OptionalNote}
 use Rattle.note.specs.declared.RootModifier.the-variants.{Sharp, Flat}
+use Rattle.expression.specs.ParserError.{allNumbers, numbersOf}
 use Rattle.expression.specs.State.{Wrote}
 use Rattle.expression.specs.declared.expression.Exp.{Exp}
 use Rattle.step.proofs.Laws.{inside-small}
@@ -35,7 +36,6 @@ use Rattle.token.specs.declared.TokenType.{TokenType}
 use Rattle.parser.specs.Parser.{Parsing, errorOf, gainsOf, itself, rootEffect}
 use Rattle.parser.specs.State.{EffectDone, Fits, Gained, Ready, Foreseen, aheadIn, reachOf, effectIn, hereIn, start}
 use Rattle.parser.specs.declared.state.State.{State}
-use Rattle.parser.proofs.Coded.{error-coded}
 use Rattle.parser.proofs.Lists.{gained-none, gained-numbered}
 
 pub gains-length : (g : Gains) → length (gainsOf g) ≡ gainsCount g
@@ -47,6 +47,11 @@ gains-length (Two e f) = refl
 pub error-most : (e : OptionalError) → length (errorOf itself e) ≤ 1
 error-most error.None = omega arith
 error-most (error.Some e) = omega arith
+
+-- its numbers
+pub error-coded : (e : OptionalError) → allNumbers (errorOf itself e) ≡ errorOf numbersOf e
+error-coded error.None = refl
+error-coded (error.Some e) = refl
 
 abbrev after : State → Effect → ℕ → ℕ → State
 after st e n m = record { at = st .at + 1 + e .taken; count = e .count; context = e .context; errors = n; exps = m }

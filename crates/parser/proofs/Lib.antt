@@ -2,7 +2,7 @@
 mod Lists
 pub mod Rows
 mod Six
-mod Coded
 mod Effects
+mod Coded
 mod Walk
 pub mod Laws
