@@ -1,0 +1,2 @@
+-- What the proof of `step` uses.
+pub mod Laws

@@ -1,0 +1,2 @@
+pub mod Song
+pub mod State
