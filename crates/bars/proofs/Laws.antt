@@ -81,10 +81,10 @@ place-within line p = turn (ltb longestLine (length line)) (ltb (length line) p)
 
 -- ---- the place of a bar
 
-abbrev barPlace : List ℕ → ℕ → Place
+abbrev pub barPlace : List ℕ → ℕ → Place
 barPlace line p = record { found = Bar; from = p; to = barEnd line p; next = barEnd line p + 1 }
 
-abbrev isBar : Found → Bool
+abbrev pub isBar : Found → Bool
 isBar TooLong = false
 isBar End = false
 isBar Bar = true
@@ -98,6 +98,17 @@ bar-place line p = turn (ltb longestLine (length line)) (ltb (length line) p)
     turn true t e = absurd (true≢false (sym (ap isBar e)))
     turn false true e = absurd (true≢false (sym (ap isBar e)))
     turn false false e = refl
+
+-- without a bar the reader stays
+pub stays-put : (line : List ℕ) (p : ℕ) → isBar (placeAt line p .found) ≡ false → placeAt line p .next ≡ p
+unfolding placeAt
+stays-put line p = turn (ltb longestLine (length line)) (ltb (length line) p)
+  where
+    turn : (s t : Bool) → isBar (cond s (stayed TooLong p) (cond t (stayed End p) (barPlace line p)) .found) ≡ false
+        → cond s (stayed TooLong p) (cond t (stayed End p) (barPlace line p)) .next ≡ p
+    turn true t e = refl
+    turn false true e = refl
+    turn false false e = absurd (true≢false e)
 
 -- the part of the line from the bar's place to its end is the bar
 pub bar-cut : (line : List ℕ) (p : ℕ) (q : Place) → q ≡ placeAt line p → q .found ≡ Bar → take (q .to - q .from) (drop (q .from) line) ≡ barAt line p

@@ -1,4 +1,4 @@
--- The C boundary: a record as 51 bytes, and what the two functions answer and leave in the memory that they are lent.
+-- The C boundary: a record as 51 bytes, and what the functions answer and leave in the memory that they are lent.
 use mathlib.Core.Bool.{Bool, true, cond, _&&_, _||_}
 use mathlib.Core.List.{List, [], _∷_, _++_}
 use mathlib.Core.Option.{Option, none, some}
@@ -14,6 +14,7 @@ use Rattle.note.specs.declared.OptionalNote.{OptionalNote}
 use Rattle.note.specs.declared.RootModifier.the-variants.{Natural, Sharp, Flat}
 use Rattle.note.specs.declared.RootModifier.{RootModifier}
 use Rattle.reader.specs.Reader as reader
+use Rattle.song.specs.Song.{StepOutcome, eight, end, bar}
 use Rattle.writer.specs.Writer as writer
 
 -- ---- a record as bytes, in the order of the struct's fields
@@ -90,6 +91,20 @@ countAfter o c = cond (eqb (o .number) 4 || eqb (o .number) 5) (o .count) c
 
 abbrev pub chordAfter : reader.ReadOutcome → List ℕ → List ℕ
 chordAfter o bs = cond (eqb (o .number) 0) (chordBytes (o .four)) bs
+
+-- ---- a step of a song line
+
+-- 8 and end leave the lent memory untouched, as a refusal does; end has no number in the paper, and is 255
+abbrev pub readIn : StepOutcome → reader.ReadOutcome
+readIn eight = reader.refused 8
+readIn end = reader.refused 255
+readIn (bar o) = o
+
+-- a bar's place is written with an answer of a bar only
+abbrev pub placeAfter : StepOutcome → ℕ → ℕ → ℕ
+placeAfter eight new old = old
+placeAfter end new old = old
+placeAfter (bar o) new old = new
 
 -- ---- writing
 

@@ -1,11 +1,13 @@
--- What the two functions gave: the number, and all the memory that they were lent.
+-- What the functions gave: the number, and all the memory that they were lent.
 use mathlib.Core.List.{List, _++_}
 use mathlib.Core.Path.{_≡_}
-use Prim.Native.Nat.{ℕ}
+use Prim.Native.Nat.{ℕ, _-_}
 use lib.ListN.{drop, length}
 use Rattle.reader.specs.Reader as reader
 use Rattle.writer.specs.Writer as writer
-use Rattle.nophtris.specs.Boundary.{chordAfter, countAfter, lengthAfter, writeIn}
+use Rattle.bars.specs.Bars.{placeAt}
+use Rattle.song.specs.Song.{StepOutcome, stepOf}
+use Rattle.nophtris.specs.Boundary.{chordAfter, countAfter, lengthAfter, placeAfter, readIn, writeIn}
 
 pub record GaveRead (o : reader.ReadOutcome) (r : ℕ) (es es′ : List ℕ) (c c′ : ℕ) (cs cs′ : List ℕ) : Type 0 where
   pub number : r ≡ o .number
@@ -22,6 +24,14 @@ pub record GaveWritten (o : writer.WriteOutcome) (r : ℕ) (bs bs′ : List ℕ)
 -- of the chord cs and cs′
 abbrev pub Read : (text es es′ : List ℕ) (c c′ : ℕ) (cs cs′ : List ℕ) (r : ℕ) → Type 0
 Read text es es′ c c′ cs cs′ r = GaveRead (reader.readOf (length es) text) r es es′ c c′ cs cs′
+
+-- of `nophtris_step`: at the position p of a line, which is p′ now, it answered r; list, count and chord as above, the bar's place f and f′,
+-- its length l and l′
+pub record Step (line : List ℕ) (p p′ : ℕ) (es es′ : List ℕ) (c c′ : ℕ) (cs cs′ : List ℕ) (f f′ l l′ r : ℕ) : Type 0 where
+  pub read : GaveRead (readIn (stepOf (length es) line p)) r es es′ c c′ cs cs′
+  pub position : p′ ≡ placeAt line p .next
+  pub from : f′ ≡ placeAfter (stepOf (length es) line p) (placeAt line p .from) f
+  pub size : l′ ≡ placeAfter (stepOf (length es) line p) (placeAt line p .to - placeAt line p .from) l
 
 -- and of `nophtris_write`: of the 51 bytes cs it answered r; the buffer was bs and is bs′, the length l and l′
 abbrev pub Write : (cs bs bs′ : List ℕ) (l l′ r : ℕ) → Type 0

@@ -1,4 +1,4 @@
-// The C boundary: include/nophtris.h declares the two functions. A record is 51 bytes there.
+// The C boundary: include/nophtris.h declares the functions. A record is 51 bytes there.
 ghost use mathlib.Core.Bool.{cond};
 ghost use mathlib.Core.List.{[], _∷_};
 ghost use mathlib.Core.Path.{_≡_};
@@ -10,7 +10,8 @@ ghost use Rattle.intervals.specs.Stored.{members, listed};
 ghost use Rattle.intervals.specs.Interval.{insert};
 ghost use Rattle.writer.specs.State.{Put};
 ghost use Rattle.nophtris.specs.Boundary.{alterationByte, areBits, chordBytes, inside, isAlteration, isNote, listBytes, modifierIn, noteBytes, noteIn, setBytes, valuesIn};
-ghost use Rattle.nophtris.specs.State.{Read, Write};
+ghost use Rattle.nophtris.specs.State.{Read, Step, Write};
+use bars::Found;
 use chord::Chord;
 use intervals::IntervalList;
 use intervals::IntervalSet;
@@ -148,6 +149,38 @@ pub extern "C" fn nophtris_read(
         reader::Answer::Validation(n) => {
             *count = n;
             5
+        }
+    }
+}
+
+// Reads the bar at any position of any line. The number of reading it is returned, `position` goes one past it, and its place is written;
+// 8 (the line is too long) and 255 (the end) leave all lent memory as it was.
+#[no_mangle]
+pub extern "C" fn nophtris_step(
+    line: &[u8],
+    position: &mut usize,
+    errors: &mut [u16],
+    count: &mut u16,
+    chord: &mut [u8; 51],
+    start: &mut usize,
+    size: &mut usize,
+) -> u8
+    ensures { λ r. ⌜ Step (now (line .entry)) (now (position .entry)) (now (position .exit)) (now (errors .entry)) (now (errors .exit))
+        (now (count .entry)) (now (count .exit)) (now (chord .entry)) (now (chord .exit)) (now (start .entry)) (now (start .exit))
+        (now (size .entry)) (now (size .exit)) r ⌝ }
+{
+    let place = bars::place_at(line, *position);
+    let found = place.found;
+    let from = place.from;
+    let to = place.to;
+    match found {
+        Found::TooLong => 8,
+        Found::End => 255,
+        Found::Bar => {
+            *position = place.next;
+            *start = from;
+            *size = to - from;
+            nophtris_read(&line[from..to], errors, count, chord)
         }
     }
 }

@@ -25,7 +25,7 @@ module _ (line : List ℕ) (p : ℕ) (q : Place) (e : q ≡ placeAt line p) wher
   found-within = subst (λ (x : Place). (x .from ≤ x .to) × (x .to ≤ length line)) (sym e) (place-within line p)
 
   -- what was found says which outcome it is
-  outcome-is : (room : ℕ) (f : Found) → q .found ≡ f → outcomeOf f (readOf room (barAt line p)) ≡ stepOf room line p
+  pub outcome-is : (room : ℕ) (f : Found) → q .found ≡ f → outcomeOf f (readOf room (barAt line p)) ≡ stepOf room line p
   unfolding stepOf
   outcome-is room f g = ap (λ (x : Found). outcomeOf x (readOf room (barAt line p))) (sym g ∙ ap (λ (x : Place). x .found) e)
 
