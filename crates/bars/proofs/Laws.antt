@@ -9,7 +9,7 @@ use native.Mathlib.Omega.{arith}
 use lib.Dec.{eqb, ltb}
 use lib.ListN.{length, getD, take, drop, length-drop}
 use lib.Seq.{drop-cons, drop-length}
-use borrow.Author.Tests.{eq-eqb, ne-eqb, ltb-false}
+use borrow.Author.Tests.{eq-eqb, ne-eqb, ltb-false, ltb-true}
 use Rattle.bars.specs.Bars.{stroke, longestLine, bar, barAt, barEnd, placeAt, stayed}
 use Rattle.bars.specs.declared.Found.the-variants.{TooLong, End, Bar}
 use Rattle.bars.specs.declared.Found.{Found}
@@ -64,25 +64,35 @@ end-last line i e =
     ap (λ (k : ℕ). length (barAt line k)) e ∙ ap (λ (l : List ℕ). length (bar l)) (drop-length line) in
     omega (arith, none)
 
--- ---- the place of a step lies in the line
-
-abbrev Within : Place → ℕ → Type 0
-Within q n = (q .from ≤ q .to) × (q .to ≤ n)
-
-pub place-within : (line : List ℕ) (p : ℕ) → Within (placeAt line p) (length line)
-unfolding placeAt
-place-within line p = turn (ltb longestLine (length line)) (ltb (length line) p) refl
-  where
-    turn : (s t : Bool) → ltb (length line) p ≡ t
-        → Within (cond s (stayed TooLong p) (cond t (stayed End p) (record { found = Bar; from = p; to = barEnd line p; next = barEnd line p + 1 }))) (length line)
-    turn true t e = (omega arith, omega arith)
-    turn false true e = (omega arith, omega arith)
-    turn false false e = (omega arith, end-within line p (ltb-false (length line) p e))
-
--- ---- the place of a bar
+-- ---- the way to a place: the line is over its limit, the position is past its end, or here is a bar
 
 abbrev pub barPlace : List ℕ → ℕ → Place
 barPlace line p = record { found = Bar; from = p; to = barEnd line p; next = barEnd line p + 1 }
+
+pub data Way (line : List ℕ) (p : ℕ) : Place → Type 0 where
+  over : longestLine < length line → Way line p (stayed TooLong p)
+  past : length line ≤ longestLine → length line < p → Way line p (stayed End p)
+  here : length line ≤ longestLine → p ≤ length line → Way line p (barPlace line p)
+
+pub way : (line : List ℕ) (p : ℕ) → Way line p (placeAt line p)
+unfolding placeAt
+way line p = by (ltb longestLine (length line)) (ltb (length line) p) refl refl
+  where
+    by : (s t : Bool) → ltb longestLine (length line) ≡ s → ltb (length line) p ≡ t
+        → Way line p (cond s (stayed TooLong p) (cond t (stayed End p) (barPlace line p)))
+    by true t e f = over (ltb-true longestLine (length line) e)
+    by false true e f = past (ltb-false longestLine (length line) e) (ltb-true (length line) p f)
+    by false false e f = here (ltb-false longestLine (length line) e) (ltb-false (length line) p f)
+
+-- ---- what the three have in common
+
+pub place-within : (line : List ℕ) (p : ℕ) → (placeAt line p .from ≤ placeAt line p .to) × (placeAt line p .to ≤ length line)
+place-within line p = by (way line p)
+  where
+    by : {q : Place} → Way line p q → (q .from ≤ q .to) × (q .to ≤ length line)
+    by (over h) = (omega arith, omega arith)
+    by (past h k) = (omega arith, omega arith)
+    by (here h k) = (omega arith, end-within line p k)
 
 abbrev pub isBar : Found → Bool
 isBar TooLong = false
@@ -90,28 +100,25 @@ isBar End = false
 isBar Bar = true
 
 pub bar-place : (line : List ℕ) (p : ℕ) → placeAt line p .found ≡ Bar → placeAt line p ≡ barPlace line p
-unfolding placeAt
-bar-place line p = turn (ltb longestLine (length line)) (ltb (length line) p)
+bar-place line p = by (way line p)
   where
-    turn : (s t : Bool) → cond s (stayed TooLong p) (cond t (stayed End p) (barPlace line p)) .found ≡ Bar
-        → cond s (stayed TooLong p) (cond t (stayed End p) (barPlace line p)) ≡ barPlace line p
-    turn true t e = absurd (true≢false (sym (ap isBar e)))
-    turn false true e = absurd (true≢false (sym (ap isBar e)))
-    turn false false e = refl
+    by : {q : Place} → Way line p q → q .found ≡ Bar → q ≡ barPlace line p
+    by (over h) e = absurd (true≢false (sym (ap isBar e)))
+    by (past h k) e = absurd (true≢false (sym (ap isBar e)))
+    by (here h k) e = refl
 
 -- without a bar the reader stays
 pub stays-put : (line : List ℕ) (p : ℕ) → isBar (placeAt line p .found) ≡ false → placeAt line p .next ≡ p
-unfolding placeAt
-stays-put line p = turn (ltb longestLine (length line)) (ltb (length line) p)
+stays-put line p = by (way line p)
   where
-    turn : (s t : Bool) → isBar (cond s (stayed TooLong p) (cond t (stayed End p) (barPlace line p)) .found) ≡ false
-        → cond s (stayed TooLong p) (cond t (stayed End p) (barPlace line p)) .next ≡ p
-    turn true t e = refl
-    turn false true e = refl
-    turn false false e = absurd (true≢false e)
+    by : {q : Place} → Way line p q → isBar (q .found) ≡ false → q .next ≡ p
+    by (over h) e = refl
+    by (past h k) e = refl
+    by (here h k) e = absurd (true≢false e)
 
 -- the part of the line from the bar's place to its end is the bar
-pub bar-cut : (line : List ℕ) (p : ℕ) (q : Place) → q ≡ placeAt line p → q .found ≡ Bar → take (q .to - q .from) (drop (q .from) line) ≡ barAt line p
+pub bar-cut : (line : List ℕ) (p : ℕ) (q : Place) → q ≡ placeAt line p → q .found ≡ Bar
+    → take (q .to - q .from) (drop (q .from) line) ≡ barAt line p
 bar-cut line p q e f =
     let w : barEnd line p - p ≡ length (barAt line p) = omega arith in
     ap (λ (x : Place). take (x .to - x .from) (drop (x .from) line)) (e ∙ bar-place line p (ap (λ (x : Place). x .found) (sym e) ∙ f))

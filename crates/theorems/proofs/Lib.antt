@@ -6,4 +6,7 @@ pub mod Decoding
 pub mod Readings
 pub mod Writings
 pub mod Trips
+pub mod Walks
+pub mod Songs
+pub mod CSongs
 pub mod Theorems

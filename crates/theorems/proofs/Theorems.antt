@@ -1,8 +1,11 @@
 -- Every statement of specs/ has its proof.
 -- Assumes nothing.
+use Rattle.theorems.proofs.CSongs.{c-all-bars, c-always-eight, c-bars-from, c-handed-out, c-step-turns}
 use Rattle.theorems.proofs.Readings.{c-read-errors, c-read-numbered, c-read-record, c-read-untouched, read-apart, read-errors, read-numbered, read-record, read-untouched}
+use Rattle.theorems.proofs.Songs.{all-bars, always-eight, bars-from, handed-out, next-all-bars, next-always-eight, next-bars-from, next-handed-out, next-turns, step-turns}
 use Rattle.theorems.proofs.Specimens.{read-as-said}
 use Rattle.theorems.proofs.Trips.{any-written-then-read, c-any-written-then-read, c-read-then-write, c-same-spelling, c-write-then-read, read-then-write, same-spelling, write-then-read}
+use Rattle.theorems.proofs.Walks.{bars-split}
 use Rattle.theorems.proofs.Writings.{c-write-numbered, c-write-spelled, c-write-untouched, write-apart, write-numbered, write-spelled, write-untouched}
 use Rattle.theorems.specs.Theorems.{Theorems}
 
@@ -34,4 +37,20 @@ theorems =
       cAnyWrittenThenRead = c-any-written-then-read;
       cSameSpelling = c-same-spelling;
       readAsSaid = read-as-said;
+      barsSplit = bars-split;
+      stepTurns = step-turns;
+      allBars = all-bars;
+      barsFrom = bars-from;
+      handedOut = handed-out;
+      alwaysEight = always-eight;
+      nextTurns = next-turns;
+      nextAllBars = next-all-bars;
+      nextBarsFrom = next-bars-from;
+      nextHandedOut = next-handed-out;
+      nextAlwaysEight = next-always-eight;
+      cStepTurns = c-step-turns;
+      cAllBars = c-all-bars;
+      cBarsFrom = c-bars-from;
+      cHandedOut = c-handed-out;
+      cAlwaysEight = c-always-eight;
     }

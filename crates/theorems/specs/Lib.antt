@@ -4,5 +4,7 @@ pub mod Trips
 pub mod CReading
 pub mod CWriting
 pub mod CTrips
+pub mod Song
+pub mod CSong
 pub mod Specimens
 pub mod Theorems

@@ -1,10 +1,12 @@
--- All statements, in the order of the demands: proofs/Theorems.antt has a value of this record. That each call ends and that nothing in
+-- All statements, in the order of the demands and of the requests: proofs/Theorems.antt has a value of this record. That each call ends and that nothing in
 -- it is undefined is what it means that the functions are proved; that the caller has nothing to check first, that they have no
 -- `requires`.
 use Rattle.theorems.specs.CReading as C-reading
+use Rattle.theorems.specs.CSong as C-song
 use Rattle.theorems.specs.CTrips as C-trips
 use Rattle.theorems.specs.CWriting as C-writing
 use Rattle.theorems.specs.Reading as reading
+use Rattle.theorems.specs.Song as song
 use Rattle.theorems.specs.Specimens.{ReadAsSaid}
 use Rattle.theorems.specs.Trips as trips
 use Rattle.theorems.specs.Writing as writing
@@ -39,3 +41,20 @@ pub record Theorems : Type 0 where
   pub cSameSpelling : C-trips.SameSpelling
   -- the card specimens that have a star
   pub readAsSaid : ReadAsSaid
+  -- whole song lines: the bars of a line, one step, and steps one after the other
+  pub barsSplit : song.BarsSplit
+  pub stepTurns : song.StepTurns
+  pub allBars : song.AllBars
+  pub barsFrom : song.BarsFrom
+  pub handedOut : song.HandedOut
+  pub alwaysEight : song.AlwaysEight
+  pub nextTurns : song.NextTurns
+  pub nextAllBars : song.NextAllBars
+  pub nextBarsFrom : song.NextBarsFrom
+  pub nextHandedOut : song.NextHandedOut
+  pub nextAlwaysEight : song.NextAlwaysEight
+  pub cStepTurns : C-song.StepTurns
+  pub cAllBars : C-song.AllBars
+  pub cBarsFrom : C-song.BarsFrom
+  pub cHandedOut : C-song.HandedOut
+  pub cAlwaysEight : C-song.AlwaysEight
