@@ -14,7 +14,7 @@ use Rattle.bars.specs.declared.Place.{Place}
 use Rattle.reader.specs.Reader.{readOf}
 use Rattle.reader.specs.State.{Read}
 use Rattle.reader.specs.declared.Reading.{Reading}
-use Rattle.song.specs.Song.{StepOutcome, outcomeOf, stepOf}
+use Rattle.song.specs.Song.{StepOutcome, bar, outcomeOf, stepOf}
 use Rattle.song.specs.State.{StepGave, Stepped}
 use Rattle.song.specs.declared.Answer.the-variants.{TooLong, End, Bar}
 use Rattle.song.specs.declared.Answer.{Answer}
@@ -55,5 +55,6 @@ module _ (line : List ℕ) (p : ℕ) (q : Place) (e : q ≡ placeAt line p) wher
       → Read (take (q .to - q .from) (drop (q .from) line)) es es′ r
       → s ≡ record { answer = Bar (r .answer); chord = r .chord; from = q .from; to = q .to; next = q .next } → Stepped line p s es es′
   a-bar s r es es′ g v h =
-      subst (λ (x : Step). Stepped line p x es es′) (sym h)
-      (stepped found.Bar _ es es′ g refl refl refl (r .answer, refl, subst (λ (t : List ℕ). Read t es es′ r) (bar-cut line p q e g) v))
+      let read : StepGave (bar (readOf (length es) (barAt line p))) (Bar (r .answer)) (r .chord) es es′ =
+      (r .answer, refl, subst (λ (t : List ℕ). Read t es es′ r) (bar-cut line p q e g) v) in
+      subst (λ (x : Step). Stepped line p x es es′) (sym h) (stepped found.Bar _ es es′ g refl refl refl read)
