@@ -17,7 +17,8 @@ use Rattle.nophtris.specs.State.{GaveRead, Read, Step}
 
 module _ (line : List ℕ) (p : ℕ) (q : Place) (e : q ≡ placeAt line p) where
   -- the outcome is o, and all else is as q and o have it
-  stepped : (o : StepOutcome) {p′ : ℕ} {es es′ : List ℕ} {c c′ : ℕ} {cs cs′ : List ℕ} {f l r : ℕ} → o ≡ stepOf (length es) line p → p′ ≡ q .next
+  stepped : (o : StepOutcome) {p′ : ℕ} {es es′ : List ℕ} {c c′ : ℕ} {cs cs′ : List ℕ} {f l r : ℕ} → o ≡ stepOf (length es) line p
+      → p′ ≡ q .next
       → GaveRead (readIn o) r es es′ c c′ cs cs′
       → Step line p p′ es es′ c c′ cs cs′ f (placeAfter o (q .from) f) l (placeAfter o (q .to - q .from) l) r
   stepped o {p′} {es} {es′} {c} {c′} {cs} {cs′} {f} {l} {r} h n g =

@@ -6,7 +6,7 @@ use lib.ListN.{drop, length}
 use Rattle.reader.specs.Reader as reader
 use Rattle.writer.specs.Writer as writer
 use Rattle.bars.specs.Bars.{placeAt}
-use Rattle.song.specs.Song.{StepOutcome, stepOf}
+use Rattle.song.specs.Song.{stepOf}
 use Rattle.nophtris.specs.Boundary.{chordAfter, countAfter, lengthAfter, placeAfter, readIn, writeIn}
 
 pub record GaveRead (o : reader.ReadOutcome) (r : ℕ) (es es′ : List ℕ) (c c′ : ℕ) (cs cs′ : List ℕ) : Type 0 where
@@ -25,8 +25,8 @@ pub record GaveWritten (o : writer.WriteOutcome) (r : ℕ) (bs bs′ : List ℕ)
 abbrev pub Read : (text es es′ : List ℕ) (c c′ : ℕ) (cs cs′ : List ℕ) (r : ℕ) → Type 0
 Read text es es′ c c′ cs cs′ r = GaveRead (reader.readOf (length es) text) r es es′ c c′ cs cs′
 
--- of `nophtris_step`: at the position p of a line, which is p′ now, it answered r; list, count and chord as above, the bar's place f and f′,
--- its length l and l′
+-- of `nophtris_step`: at the position p of a line, which is p′ now, it answered r; list, count and chord as above, the bar's place f and
+-- f′, its length l and l′
 pub record Step (line : List ℕ) (p p′ : ℕ) (es es′ : List ℕ) (c c′ : ℕ) (cs cs′ : List ℕ) (f f′ l l′ r : ℕ) : Type 0 where
   pub read : GaveRead (readIn (stepOf (length es) line p)) r es es′ c c′ cs cs′
   pub position : p′ ≡ placeAt line p .next

@@ -3,7 +3,6 @@
 use mathlib.Core.List.{List}
 use mathlib.Core.Path.{_≡_, refl, sym, ap, subst, _∙_}
 use Prim.Native.Nat.{ℕ, _≤_, _-_}
-use native.Mathlib.Omega.{arith}
 use lib.ListN.{drop, length, take}
 use Rattle.chord.specs.Chord.{noChord, recordOf}
 use Rattle.bars.proofs.Laws.{bar-cut, place-within}
@@ -17,7 +16,6 @@ use Rattle.reader.specs.declared.Reading.{Reading}
 use Rattle.song.specs.Song.{StepOutcome, bar, outcomeOf, stepOf}
 use Rattle.song.specs.State.{StepGave, Stepped}
 use Rattle.song.specs.declared.Answer.the-variants.{TooLong, End, Bar}
-use Rattle.song.specs.declared.Answer.{Answer}
 use Rattle.song.specs.declared.Step.{Step}
 
 module _ (line : List ℕ) (p : ℕ) (q : Place) (e : q ≡ placeAt line p) where

@@ -42,7 +42,13 @@ fn without_bar(answer: Answer, place: Place) -> Step
 
 // A step that read a bar: where the next one begins does not depend on the answer.
 fn with_bar(reading: Reading, place: Place) -> Step
-    ensures { λ r. ⌜ r ≡ record { answer = Bar (reading .answer); chord = reading .chord; from = place .from; to = place .to; next = place .next } ⌝ }
+    ensures { λ r. ⌜ r ≡ record {
+      answer = Bar (reading .answer);
+      chord = reading .chord;
+      from = place .from;
+      to = place .to;
+      next = place .next;
+    } ⌝ }
 {
     let answer = reading.answer;
     let chord = reading.chord;

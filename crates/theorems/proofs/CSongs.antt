@@ -2,15 +2,15 @@
 -- Assumes nothing.
 use mathlib.Core.List.{List}
 use mathlib.Core.Path.{_≡_, refl, sym, ap, subst, _∙_}
-use Prim.Native.Nat.{ℕ, _+_, _-_, _≤_, _<_}
+use Prim.Native.Nat.{ℕ, _-_, _≤_, _<_}
 use native.Mathlib.Omega.{arith}
 use lib.ListN.{drop, length, take}
 use Rattle.bars.proofs.Laws as bars
 use Rattle.bars.proofs.Laws.{Way, bar-cut, here, over, past, way}
-use Rattle.bars.specs.Bars.{barAt, barEnd, barsOf, longestLine, placeAt, stayed}
+use Rattle.bars.specs.Bars.{barAt, longestLine, placeAt}
 use Rattle.bars.specs.declared.Place.{Place}
 use Rattle.nophtris.specs.Boundary.{placeAfter, readIn}
-use Rattle.nophtris.specs.State.{GaveRead, Read}
+use Rattle.nophtris.specs.State.{GaveRead}
 use Rattle.reader.specs.Reader.{readOf}
 use Rattle.song.specs.Song.{StepOutcome, outcomeOf, stepOf}
 use Rattle.theorems.proofs.Readings.{c-read-numbered}
@@ -25,7 +25,8 @@ module _ (line : List ℕ) (p p′ : ℕ) (k : Call) (d : Calls line p k p′) w
     is : stepOf (length (k .es)) line p ≡ outcomeOf (q .found) (readOf (length (k .es)) (barAt line p))
     is = outcome line p (length (k .es)) e
 
-    gave : GaveRead (readIn (outcomeOf (q .found) (readOf (length (k .es)) (barAt line p)))) (k .r) (k .es) (k .es′) (k .c) (k .c′) (k .cs) (k .cs′)
+    gave : GaveRead (readIn (outcomeOf (q .found) (readOf (length (k .es)) (barAt line p)))) (k .r) (k .es) (k .es′) (k .c) (k .c′) (k .cs)
+        (k .cs′)
     gave = subst (λ (o : StepOutcome). GaveRead (readIn o) (k .r) (k .es) (k .es′) (k .c) (k .c′) (k .cs) (k .cs′)) is (d .read)
 
     goes : p′ ≡ q .next

@@ -1,8 +1,7 @@
 -- Song lines: what each contract says of one step, by the way to its place; then the calls one after the other by `Walks`.
 -- Assumes nothing.
 use mathlib.Core.Bool.{Bool, true, false, true≢false}
-use mathlib.Core.List.{List, []}
-use mathlib.Core.Logic.{_↔_}
+use mathlib.Core.List.{List}
 use mathlib.Core.Path.{_≡_, refl, sym, ap, subst, _∙_}
 use Prim.Native.Nat.{ℕ, _+_, _-_, _≤_, _<_}
 use native.Mathlib.Omega.{arith}
@@ -10,20 +9,19 @@ use lib.ListN.{drop, length, take}
 use denote.Ref.{now}
 use Rattle.bars.proofs.Laws as bars
 use Rattle.bars.proofs.Laws.{Way, bar-cut, here, over, past, way}
-use Rattle.bars.specs.Bars.{barAt, barEnd, barsOf, longestLine, placeAt, stayed}
-use Rattle.bars.specs.State.{Line, Part}
+use Rattle.bars.specs.Bars.{barAt, barEnd, longestLine, placeAt, stayed}
+use Rattle.bars.specs.State.{Line}
 use Rattle.bars.specs.declared.Found.the-variants as found
 use Rattle.bars.specs.declared.Place.{Place}
 use Rattle.chord.specs.declared.Chord.{Chord}
-use Rattle.parser.specs.All.{All}
-use Rattle.reader.specs.Reader.{ReadOutcome, readOf}
+use Rattle.reader.specs.Reader.{readOf}
 use Rattle.song.specs.Song.{StepOutcome, bar, eight, end, outcomeOf, stepOf}
-use Rattle.song.specs.State.{NextStepped, StepGave, Stepped}
+use Rattle.song.specs.State.{StepGave, Stepped}
 use Rattle.song.specs.declared.Answer.the-variants.{TooLong, End, Bar}
 use Rattle.song.specs.declared.Answer.{Answer}
 use Rattle.song.specs.declared.LineReader.{LineReader}
 use Rattle.theorems.proofs.Walks.{all-say, answers, from-start, handed-line}
-use Rattle.theorems.specs.Song.{AllBars, AlwaysEight, Answers, BarsFrom, Call, CallReads, CallSays, Calls, HandedOut, NextAllBars, NextAlwaysEight, NextBarsFrom, NextCall, NextCalls, NextHandedOut, NextReads, NextSays, NextTurns, ReadsBar, ReadsNone, Run, SaysBar, StepTurns, Turn, barsFrom, cutBy}
+use Rattle.theorems.specs.Song.{AllBars, AlwaysEight, Answers, BarsFrom, Call, CallReads, CallSays, Calls, HandedOut, NextAllBars, NextAlwaysEight, NextBarsFrom, NextCall, NextCalls, NextHandedOut, NextReads, NextSays, NextTurns, ReadsBar, ReadsNone, SaysBar, StepTurns, Turn, barsFrom, cutBy}
 
 -- ---- one step at a position: what it finds, and its outcome
 
@@ -135,7 +133,8 @@ step-turns line p s es es′ g = turn line p (s .next) (s .answer) (s .chord) es
 
 module _ (line : List ℕ) where
   -- what is cut out of the line is the bar
-  cut-bar : (p : ℕ) (c : Call) → Stepped line p (c .step) (c .es) (c .es′) → length line ≤ longestLine → p ≤ length line → cutBy line c ≡ barAt line p
+  cut-bar : (p : ℕ) (c : Call) → Stepped line p (c .step) (c .es) (c .es′) → length line ≤ longestLine → p ≤ length line
+      → cutBy line c ≡ barAt line p
   cut-bar p c g h k =
       (λ i. take (g .to i - g .from i) (drop (g .from i) line))
       ∙ bar-cut line p (placeAt line p) refl (ap (λ (q : Place). q .found) (place-here line p h k))
@@ -207,27 +206,40 @@ module _ (line : Line) where
             → ReadsBar (barAt (now (r .line)) (r .at)) (c .step .answer) (c .step .chord) (c .es) (c .es′) (now (c .step .bar))
         own a b =
             let l = now (r .line) in
-            let cut = d .0 .bar .bytes ∙ bar-cut l (r .at) (placeAt l (r .at)) refl (ap (λ (q : Place). q .found) (place-here l (r .at) a b)) in
+            let cut = d .0 .bar .bytes ∙ bar-cut l (r .at) (placeAt l (r .at)) refl
+            (ap (λ (q : Place). q .found) (place-here l (r .at) a b)) in
             reads-bar l (r .at) (c .step .reader .at) (c .step .answer) (c .step .chord) (c .es) (c .es′) (d .0 .said) (d .0 .at) a b _ cut
 
     next-ends : length (now line) ≤ longestLine → length (now line) < r .at → NextSays End c
     next-ends h k =
         of-line (λ (x : Line). length (now x) ≤ longestLine → length (now x) < r .at → NextSays End c)
-        (reads-none-past (now (r .line)) (r .at) (c .step .reader .at) (c .step .answer) (c .step .chord) (c .es) (c .es′) (d .0 .said) (d .0 .at))
+        (reads-none-past (now (r .line)) (r .at) (c .step .reader .at) (c .step .answer) (c .step .chord) (c .es) (c .es′) (d .0 .said)
+        (d .0 .at))
         h k
 
     next-eight : longestLine < length (now line) → NextSays TooLong c
     next-eight h =
         of-line (λ (x : Line). longestLine < length (now x) → NextSays TooLong c)
-        (reads-none-over (now (r .line)) (r .at) (c .step .reader .at) (c .step .answer) (c .step .chord) (c .es) (c .es′) (d .0 .said) (d .0 .at))
+        (reads-none-over (now (r .line)) (r .at) (c .step .reader .at) (c .step .answer) (c .step .chord) (c .es) (c .es′) (d .0 .said)
+        (d .0 .at))
         h
 
 pub next-bars-from : NextBarsFrom
 next-bars-from r cs h run =
     let l = now (r .line) in
     answers NextCalls (Holds (r .line)) l (λ (x : LineReader). x .at) (NextReads (r .line)) (NextSays End)
-    (λ x x′ c e d k. (next-reads (r .line) x x′ c e d h k, keeps (r .line) x x′ c e d, moved (r .line) x x′ c e d (place-here l (x .at) h k)))
-    (λ x x′ c e d k. (next-ends (r .line) x x′ c e d h k, keeps (r .line) x x′ c e d, moved (r .line) x x′ c e d (place-past l (x .at) h k)))
+    (λ x x′ c e d k. (
+      next-reads (r .line) x x′ c e d h k,
+      keeps (r .line) x x′ c e d,
+      moved (r .line) x x′ c e d
+          (place-here l (x .at) h k),
+    ))
+    (λ x x′ c e d k. (
+      next-ends (r .line) x x′ c e d h k,
+      keeps (r .line) x x′ c e d,
+      moved (r .line) x x′ c e d
+          (place-past l (x .at) h k),
+    ))
     refl run
 
 pub next-all-bars : NextAllBars

@@ -1,7 +1,7 @@
 -- Calls one after the other, whatever makes them: by induction on the calls, with the line's next bar at each.
 -- Assumes nothing.
 use mathlib.Core.Bool.{Bool, true, false, cond}
-use mathlib.Core.List.{List, [], _∷_, _++_, map}
+use mathlib.Core.List.{List, [], _∷_, map}
 use mathlib.Core.Path.{_≡_, refl, sym, ap, subst, _∙_}
 use Prim.Native.Nat.{ℕ, suc, _+_, _≤_, _<_, zero-le}
 use native.Mathlib.Omega.{arith}
@@ -12,7 +12,7 @@ use borrow.Author.Tests.{eqb-true, le-ltb, lt-ltb, ltb-false, ltb-true}
 use Rattle.bars.proofs.Splits.{bar-count, split-here, split-last}
 use Rattle.bars.specs.Bars.{barAt, barEnd, barsOf, onto, stroke, strokes}
 use Rattle.parser.specs.All.{All}
-use Rattle.theorems.specs.Song.{Answers, BarsSplit, Run, barsFrom, behind, call, done, joined}
+use Rattle.theorems.specs.Song.{Answers, BarsSplit, Run, barsFrom, call, done, joined}
 
 -- ---- the bars of a line: by its bytes
 

@@ -177,4 +177,5 @@ NextHandedOut =
     → joined (map (λ (c : NextCall). now (c .step .bar)) cs) ≡ now (r .line)
 
 abbrev pub NextAlwaysEight : Type 0
-NextAlwaysEight = (r : LineReader) (cs : List NextCall) → longestLine < length (now (r .line)) → Run NextCalls r cs → All (NextSays TooLong) cs
+NextAlwaysEight = (r : LineReader) (cs : List NextCall) → longestLine < length (now (r .line)) → Run NextCalls r cs
+    → All (NextSays TooLong) cs

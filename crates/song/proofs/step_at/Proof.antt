@@ -51,7 +51,8 @@ returns-3 : tie.Need-returns-3
 returns-3 c =
     let b3 = c .before .before .before in
     let b8 = b3 .before .before .before .before .before in
-    a-bar _ _ _ (b8 .place-at .ensures) _ _ _ _ (b3 .before .before .before .enum-told3 .given .1) (b3 .read .ensures) (c .with-bar .ensures)
+    a-bar _ _ _ (b8 .place-at .ensures) _ _ _ _ (b3 .before .before .before .enum-told3 .given .1) (b3 .read .ensures)
+    (c .with-bar .ensures)
 
 pub step-at-spec : {M : Type 1} → statement M
 step-at-spec =
