@@ -23,7 +23,9 @@ put-number-requires : tie.Need-put-number-requires
 put-number-requires c κs = search needs
 
 put-said-requires : tie.Need-put-said-requires
-put-said-requires c κs = from-to _ _ _ _ _ (c .before .before .before .before .before .before .before .before .before .before .step-at .ensures)
+put-said-requires c κs =
+    let b = c .before .before .before .before .before in
+    from-to _ _ _ _ _ (b .before .before .before .before .before .step-at .ensures)
 
 same-length : tie.Need-same-length
 same-length c = search needs
