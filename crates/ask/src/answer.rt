@@ -7,8 +7,11 @@ use intervals::IntervalSet;
 use note::OptionalNote;
 use reader::Reading;
 
+// Half of the output's buffer: where so much waits it is written before the next answer. The longest, 257 errors, is below 8,000 bytes.
+pub(crate) const HALF: usize = 32768;
+
 // Appends a number behind a space.
-fn put_next(out: &mut [u8], used: usize, n: u64) -> usize {
+pub(crate) fn put_next(out: &mut [u8], used: usize, n: u64) -> usize {
     let u = output::put(out, used, b' ');
     output::put_number(out, u, n, 0)
 }

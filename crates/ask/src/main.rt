@@ -1,7 +1,8 @@
 // A line protocol: one question a line, whose first word says which, and one answer a line. `read LIST TEXT` reads a text with a lent
 // list of LIST numbers, `spell TEXT` gives its house spelling, and `write BUFFER RECORD` writes a record into a lent buffer of BUFFER
-// bytes. A line that is no question is answered `?` and why. What waits is written where a block of input ends, so that a caller who
-// waits for an answer gets it.
+// bytes. `step LIST POSITION LINE` takes the step at a position of a song line, and `song LINE` all steps from its start to the first
+// `end` or `8`, a line each. A line that is no question is answered `?` and why. What waits is written where a block of input ends, so
+// that a caller who waits for an answer gets it.
 ghost use Prim.Native.Nat.{_≤_};
 ghost use Rattle.io.specs.Counts.{Counts};
 
@@ -9,7 +10,9 @@ mod answer;
 mod fault;
 mod number;
 mod record;
+mod steps;
 
+use answer::HALF;
 use answer::put_reading;
 use answer::put_spelling;
 use answer::put_written;
@@ -19,6 +22,8 @@ use lines::Input;
 use number::behind_space;
 use number::next_number;
 use record::next_record;
+use steps::put_song;
+use steps::put_step;
 
 // A LIST above this counts as this.
 const LONGEST_LIST: u64 = 1028;
@@ -91,6 +96,38 @@ fn answer_write(out: &mut [u8], used: usize, line: &[u8]) -> usize {
     put_written(out, used, record, &mut buffer[..n])
 }
 
+// Answers `step LIST POSITION LINE`.
+fn answer_step(out: &mut [u8], used: usize, line: &[u8]) -> usize {
+    let list = next_number(line, 4);
+    let missing = list.fault;
+    if is_missing(missing) {
+        return put_fault(out, used, missing);
+    }
+    let position = next_number(line, list.at);
+    let fault = position.fault;
+    if !fault.is_nothing() {
+        return put_fault(out, used, fault);
+    }
+    let n = at_most(list.value, LONGEST_LIST);
+    let from = behind_space(line, position.at);
+    let mut errs = [0u16; 1028];
+    let p = put_step(
+        out,
+        used,
+        &line[from..],
+        position.value as usize,
+        &mut errs[..n],
+    );
+    p.used
+}
+
+// Answers `song LINE`.
+fn answer_song(out: &mut [u8], used: usize, line: &[u8]) -> usize {
+    let from = behind_space(line, 4);
+    let mut errs = [0u16; 1028];
+    put_song(out, used, &line[from..], &mut errs)
+}
+
 // Is the first word this one?
 fn asks(line: &[u8], word: &[u8]) -> bool {
     if line.len() < word.len() {
@@ -120,6 +157,12 @@ fn put_answer(out: &mut [u8], used: usize, line: &[u8]) -> usize {
     if asks(line, b"write") {
         return answer_write(out, used, line);
     }
+    if asks(line, b"step") {
+        return answer_step(out, used, line);
+    }
+    if asks(line, b"song") {
+        return answer_song(out, used, line);
+    }
     put_fault(out, used, Fault::NoQuestion)
 }
 
@@ -131,7 +174,7 @@ fn answer_line(out: &mut [u8], used: usize, line: &[u8], s: Input) -> usize
         return used;
     }
     let len = s.len;
-    let u = output::room(out, used, 32768);
+    let u = output::room(out, used, HALF);
     let v = put_answer(out, u, &line[..len]);
     output::put(out, v, b'\n')
 }

@@ -1,19 +1,22 @@
 // For people: reads texts, from the arguments or else from the lines of standard input, and prints for each its house spelling, root,
 // bass, intervals by name and the pitch classes that sound (C 0 to B 11, with the bass); for a refused text each error in plain words,
-// with a caret under its place in the text. A line is kept up to its 258th byte: one that is cut has more than 256 without a carriage
-// return too.
+// with a caret under its place in the text. A text with a `|` is a song line, and each of its bars is shown so, below its number. A line
+// is kept up to its 4,098th byte: one that is cut has more than 4,096 without a carriage return too. A `|` behind them is not looked for.
 ghost use Prim.Native.Nat.{_≤_};
 ghost use lib.ListN.{length};
 
 mod chords;
 mod errors;
 mod print;
+mod songs;
 
 use errors::put_errors;
 use lines::Input;
 use print::put;
 use reader::Answer;
 use reader::Reading;
+use songs::is_song;
+use songs::show_song;
 
 fn put_refusal(text: &[u8], answer: Answer, errs: &[u16]) {
     match answer {
@@ -26,7 +29,7 @@ fn put_refusal(text: &[u8], answer: Answer, errs: &[u16]) {
     }
 }
 
-fn put_reading(text: &[u8], reading: Reading, errs: &[u16]) {
+pub(crate) fn put_reading(text: &[u8], reading: Reading, errs: &[u16]) {
     let answer = reading.answer;
     let chord = reading.chord;
     match answer {
@@ -35,9 +38,13 @@ fn put_reading(text: &[u8], reading: Reading, errs: &[u16]) {
     }
 }
 
-// Reads a text and prints what there is to say of it.
+// Reads a text, or the bars of a song line, and prints what there is to say of it.
 fn show(text: &[u8]) {
     let mut errs = [0u16; 1028];
+    if is_song(text) {
+        show_song(text, &mut errs);
+        return;
+    }
     let r = reader::read(text, &mut errs);
     put_reading(text, r, &errs);
 }
@@ -80,11 +87,12 @@ fn show_lines(line: &mut [u8], block: &mut [u8]) {
     }
 }
 
+// Shows an argument. Of one that does not fit the first 4,097 bytes are there, too many for a text and for a song line.
 fn show_argument(i: usize) {
-    let mut text = io::buffer();
+    let mut text = [0u8; 4097];
     let n = os::arg(i, &mut text);
     if os::errno() != 0 {
-        put(b"the text has more than 256 bytes\n");
+        show(&text);
         return;
     }
     show(&text[..n]);
@@ -104,7 +112,7 @@ fn main() {
         show_arguments(count);
         return;
     }
-    let mut line = [0u8; 258];
+    let mut line = [0u8; 4098];
     let mut block = io::buffer();
     show_lines(&mut line, &mut block);
 }
