@@ -1,8 +1,9 @@
--- What a step gives, from the place that was found and from what reading the bar gave.
+-- What a step gives, from the place that was found and from what reading the bar gave; and that its bar lies in the line.
 -- Assumes nothing.
 use mathlib.Core.List.{List}
 use mathlib.Core.Path.{_≡_, refl, sym, ap, subst, _∙_}
 use Prim.Native.Nat.{ℕ, _≤_, _-_}
+use native.Mathlib.Omega.{arith}
 use lib.ListN.{drop, length, take}
 use Rattle.chord.specs.Chord.{noChord, recordOf}
 use Rattle.bars.proofs.Laws.{bar-cut, place-within}
@@ -56,3 +57,10 @@ module _ (line : List ℕ) (p : ℕ) (q : Place) (e : q ≡ placeAt line p) wher
       let read : StepGave (bar (readOf (length es) (barAt line p))) (Bar (r .answer)) (r .chord) es es′ =
       (r .answer, refl, subst (λ (t : List ℕ). Read t es es′ r) (bar-cut line p q e g) v) in
       subst (λ (x : Step). Stepped line p x es es′) (sym h) (stepped found.Bar _ es es′ g refl refl refl read)
+
+-- the bar of a step lies in the line
+pub step-within : {line : List ℕ} {p : ℕ} {s : Step} {es es′ : List ℕ} → Stepped line p s es es′
+    → (s .from ≤ s .to) × (s .to ≤ length line)
+step-within {line} {p} h =
+    let w = place-within line p in
+    (omega (arith, h .from, h .to, w .0), omega (arith, h .to, w .1))

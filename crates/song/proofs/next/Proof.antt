@@ -47,7 +47,7 @@ use Rattle.chord.specs.declared.Chord.{Chord}
 use Rattle.bars.specs.Bars.{placeAt}
 use Rattle.bars.specs.State.{Part}
 use Rattle.song.specs.declared.LineReader.{LineReader}
-use Rattle.bars.proofs.Laws.{place-within}
+use Rattle.song.proofs.Laws.{step-within}
 use Rattle.song.proofs.Step as P
 use Rattle.song.proofs.Step.Laws as P′
 use Rattle.song.proofs.LineReader as T
@@ -168,10 +168,6 @@ module _ {M : Type 1} (𝓤 : URA M) (H : Heap 𝓤) (A : Atoms 𝓤) (W : Given
         at = h .at ∙ e .next;
       }
 
-  fit : (r : Step) (zs : List ℕ) → Says r zs → Fit (r .from) (r .to)
-  fit r zs e = subst (λ (j : ℕ). Fit (r .from) j) (sym (e .to)) (subst (λ (i : ℕ). Fit i (placeAt (now (d .line)) (d .at) .to))
-      (sym (e .from)) (place-within (now (d .line)) (d .at)))
-
   abbrev Result : RattleType
   Result = S.the-row (namedLft 2 0 tt κs)
 
@@ -216,7 +212,7 @@ module _ {M : Type 1} (𝓤 : URA M) (H : Heap 𝓤) (A : Atoms 𝓤) (W : Given
         land ! (from ! (stop !)) (init ! 12 refl (LL.lawful P.the-type P′.the-laws 𝓤 H A W .typed r _ is .0)) $
         assigns ! (of-opd ! (load ! (from ! (stop !)) (look ! 16 refl))) (from ! (stop !)) (init ! 4 refl (tt, wt .1)) $
         move ! (1 ∷ []) $ split ! $ nothing ! $ move ! (1 ∷ 0 ∷ []) $ join ! $ move ! (0 ∷ 4 ∷ 2 ∷ []) $
-        use3 W (raw (HandOut 𝓤 H A mem run .pre (to² r u)) ⊛ ‵ Own) (apart² r u (fit r (zs .1 .0) e)) $ split ! $
+        use3 W (raw (HandOut 𝓤 H A mem run .pre (to² r u)) ⊛ ‵ Own) (apart² r u (step-within e)) $ split ! $
         -- [what `hand_out` asks; what the reader owns; the other token; the last list; _5; …]
         calls-at ! fm (HandOut 𝓤 H A mem run) known² (to² r u) (and-then ! (load ! (from ! (stop !)) (look ! 4 refl))
         (and-then ! (load ! (from ! (stop !)) (look ! 12 refl)) (no-more !))) (λ u′.

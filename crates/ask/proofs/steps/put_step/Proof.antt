@@ -1,17 +1,9 @@
 -- The bar of a step lies in the line.
 -- Assumes nothing.
-use mathlib.Core.List.{List}
-use Prim.Native.Nat.{ℕ, _≤_}
-use native.Mathlib.Omega.{arith}
 use borrow.Author.Needs.{needs}
-use Rattle.bars.proofs.Laws.{place-within}
-use Rattle.song.specs.State.{Stepped}
-use Rattle.song.specs.declared.Step.{Step}
+use Rattle.song.proofs.Laws.{step-within}
 use Rattle.ask.proofs.steps.put_step.Statement.{statement}
 use Rattle.ask.proofs.steps.put_step.Tie as tie
-
-from-to : (line : List ℕ) (p : ℕ) (s : Step) (es es′ : List ℕ) → Stepped line p s es es′ → s .from ≤ s .to
-from-to line p s es es′ h = omega (arith, h .from, h .to, place-within line p .0)
 
 step-at-requires : tie.Need-step-at-requires
 step-at-requires c κs = search needs
@@ -25,7 +17,7 @@ put-number-requires c κs = search needs
 put-said-requires : tie.Need-put-said-requires
 put-said-requires c κs =
     let b = c .before .before .before .before .before in
-    from-to _ _ _ _ _ (b .before .before .before .before .before .step-at .ensures)
+    step-within (b .before .before .before .before .before .step-at .ensures) .0
 
 same-length : tie.Need-same-length
 same-length c = search needs
