@@ -1,4 +1,5 @@
-/* How deep the two functions go: each text is read, and each record written, on a stack of its own that was painted before. Prints the bytes used. */
+/* How deep the functions go: each text is read, as a text and as a song line, and each record written, on a stack of its own that was painted before.
+ * Prints the bytes used. */
 #include <pthread.h>
 #include <stdint.h>
 #include <stdio.h>
@@ -13,10 +14,11 @@
 typedef struct {
   const char *text;
   size_t len;
-  int call; /* 0 nothing, 1 read, 2 write */
+  int call; /* 0 nothing, 1 read, 2 write, 3 step */
   uint8_t number;
 } task;
 
+static size_t position, bar_from, bar_len;
 static uint16_t errors[NOPHTRIS_ERRORS], count, length;
 static nophtris_chord chord;
 static uint8_t buffer[NOPHTRIS_BUFFER];
@@ -25,6 +27,9 @@ static void *run(void *p) {
   task *t = p;
   if (t->call == 1) t->number = nophtris_read((const uint8_t *)t->text, t->len, errors, NOPHTRIS_ERRORS, &count, &chord);
   if (t->call == 2) t->number = nophtris_write(&chord, buffer, sizeof buffer, &length);
+  position = 0;
+  if (t->call == 3)
+    t->number = nophtris_step((const uint8_t *)t->text, t->len, &position, errors, NOPHTRIS_ERRORS, &count, &chord, &bar_from, &bar_len);
   return NULL;
 }
 
@@ -66,5 +71,7 @@ int main(void) {
   row("reading C(999 .., one bracket", repeated("C(", "9", 256), 1);
   row("reading C()() ..", repeated("C", "()", 256), 1);
   row("reading 256 commas", repeated("C", ",", 256), 1);
+  row("a step that reads C", "C|", 3);
+  row("a step that reads C((( ..", repeated("C", "(", 256), 3);
   return 0;
 }

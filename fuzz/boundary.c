@@ -1,5 +1,5 @@
-/* Calls both functions of the library with random bytes, changed cards and changed records, with every list and buffer length around each limit, and
- * checks what document 01 says of the lent memory: every lent piece stands between guard bytes, and what a call may not write is as it was.
+/* Calls the functions of the library with random bytes, changed cards, song lines and changed records, with every list, buffer and line length around each
+ * limit, and checks what the papers say of the lent memory: every lent piece stands between guard bytes, and what a call may not write is as it was.
  * usage: boundary CALLS SEED. Prints how often each number came up; ends with status 1 at the first fault. */
 #include <stdint.h>
 #include <stdio.h>
@@ -10,6 +10,7 @@
 
 #define GUARD 64
 #define MARK 0xA5
+#define LARGEST 8192 /* bytes of a lent piece */
 
 static uint64_t state;
 
@@ -31,12 +32,12 @@ static void fault(const char *what) {
 
 /* A lent piece between two guards, as it was before a call and as it is. */
 typedef struct {
-  uint8_t before[GUARD + 4096 + GUARD], now[GUARD + 4096 + GUARD];
+  uint8_t before[GUARD + LARGEST + GUARD], now[GUARD + LARGEST + GUARD];
   size_t size; /* bytes between the guards */
 } piece;
 
 static void lend(piece *p, size_t size) {
-  if (size > 4096) fault("a piece is too small");
+  if (size > LARGEST) fault("a piece is too small");
   p->size = size;
   memset(p->now, MARK, GUARD);
   for (size_t i = 0; i < size; i += 8) {
@@ -147,16 +148,82 @@ static void write_once(void) {
   if (whole && memcmp(&again, &last, sizeof last) != 0) fault("the spelling reads as another record");
 }
 
+/* A song line: texts with `|` between them, up to a length that is often near the limit, or bytes of which many are `|`. */
+static size_t line_of(uint8_t *t) {
+  static uint8_t bytes[512];
+  size_t n = 0, want = below(8) ? below(200) : near(4096);
+  if (below(8) == 0) {
+    for (; n < want; n++) t[n] = below(3) ? '|' : (uint8_t)next();
+    return n;
+  }
+  while (n < want) {
+    size_t l = text(bytes);
+    if (l > want - n) l = want - n;
+    memcpy(t + n, bytes, l);
+    n += l;
+    if (n < want && below(8)) t[n++] = '|';
+  }
+  return n;
+}
+
+static unsigned long steps[256];
+
+/* A step answers as the paper says, and with a bar all is as reading the bar's own bytes with the same list leaves it. */
+static void step_once(void) {
+  static piece given, list, again, numbers[4], record, other;
+  static uint8_t bytes[LARGEST];
+  size_t n = line_of(bytes), room = below(8) ? 1028 + below(4) : near(1028);
+  size_t p = below(4) ? below((unsigned)n + 3) : below(2) ? n + below(2) : (size_t)next();
+  lend(&given, n);
+  memcpy(given.now + GUARD, bytes, n);
+  memcpy(given.before + GUARD, bytes, n);
+  lend(&list, 2 * room);
+  again = list;
+  for (int i = 0; i < 4; i++) lend(&numbers[i], i == 3 ? 2 : sizeof(size_t));
+  memcpy(numbers[0].now + GUARD, &p, sizeof p);
+  memcpy(numbers[0].before + GUARD, &p, sizeof p);
+  lend(&record, sizeof(nophtris_chord));
+  other = record;
+  uint8_t r = nophtris_step(given.now + GUARD, n, (size_t *)(void *)(numbers[0].now + GUARD), (uint16_t *)(void *)(list.now + GUARD), room, (uint16_t *)(void *)(numbers[3].now + GUARD), (nophtris_chord *)(void *)(record.now + GUARD), (size_t *)(void *)(numbers[1].now + GUARD), (size_t *)(void *)(numbers[2].now + GUARD));
+  steps[r]++;
+  kept(&given, 0, "the line was changed");
+  int none = n > 4096 || p > n;
+  if (r != (n > 4096 ? 8 : p > n ? 255 : r) || (!none && r > 5)) fault("a step's number");
+  for (int i = 0; i < 3; i++) kept(&numbers[i], none ? 0 : sizeof(size_t), "a number of a step was written");
+  if (none) {
+    kept(&list, 0, "a step without a bar wrote the list");
+    kept(&numbers[3], 0, "a step without a bar wrote the count");
+    kept(&record, 0, "a step without a bar wrote the record");
+    return;
+  }
+  size_t to = p, at[3];
+  while (to < n && bytes[to] != '|') to++;
+  for (int i = 0; i < 3; i++) memcpy(&at[i], numbers[i].now + GUARD, sizeof at[i]);
+  if (at[0] != to + 1 || at[1] != p || at[2] != to - p) fault("a bar's place");
+  uint16_t count, same;
+  memcpy(&count, numbers[3].before + GUARD, 2);
+  memcpy(&same, numbers[3].now + GUARD, 2);
+  if (nophtris_read(bytes + p, to - p, (uint16_t *)(void *)(again.now + GUARD), room, &count, (nophtris_chord *)(void *)(other.now + GUARD)) != r) fault("a bar's number");
+  if (count != same || memcmp(again.now, list.now, 2 * room + 2 * GUARD) != 0) fault("a bar's errors");
+  if (memcmp(other.now, record.now, sizeof(nophtris_chord) + 2 * GUARD) != 0) fault("a bar's record");
+}
+
 int main(int argc, char **argv) {
   unsigned long calls = argc > 1 ? strtoul(argv[1], NULL, 10) : 1000000;
   state = argc > 2 ? strtoull(argv[2], NULL, 10) : 1;
   uint16_t errors[NOPHTRIS_ERRORS], count;
   if (nophtris_read((const uint8_t *)"C", 1, errors, NOPHTRIS_ERRORS, &count, &last) != 0) fault("C is refused");
   for (call_number = 0; call_number < calls; call_number++)
-    if (call_number % 3 != 2) read_once();
-    else write_once();
+    switch (call_number % 4) {
+    case 2: write_once(); break;
+    case 3: step_once(); break;
+    default: read_once();
+    }
   printf("%lu calls, seed %s, no fault\nreading:", calls, argc > 2 ? argv[2] : "1");
   for (int i = 0; i < 6; i++) printf(" %d: %lu", i, reads[i]);
-  printf("\nwriting: 0: %lu 6: %lu 7: %lu\n", writes[0], writes[6], writes[7]);
+  printf("\nwriting: 0: %lu 6: %lu 7: %lu\nsteps:", writes[0], writes[6], writes[7]);
+  for (int i = 0; i < 256; i++)
+    if (steps[i]) printf(" %d: %lu", i, steps[i]);
+  printf("\n");
   return 0;
 }

@@ -1,13 +1,15 @@
-/* Nophtris: reads a chord symbol, and writes a chord's house spelling.
+/* Nophtris: reads a chord symbol, or a song line bar by bar, and writes a chord's house spelling.
  *
- * Both functions are proved: they end, read and write nothing but the memory that they are lent, and give the answer that document 01 has for any bytes.
+ * All functions are proved: they end, read and write nothing but the memory that they are lent, and give the answer that documents 01 and 02 have for any
+ * bytes.
  * The proof is of the source; it does not speak of the compiler, of the time a call takes or of its stack.
  *
  * What the caller owes is what C asks of any pointer.
- *   - `text` points to text_len readable bytes, `errors` to errors_len writable numbers, `buffer` to buffer_len writable bytes. Where the length is 0 the
- *     pointer is not followed.
- *   - `count`, `chord` and `length` point to one object each and are never NULL, even where the answer leaves them as they were.
- *   - `errors`, `count` and `length` are aligned as uint16_t is; text, buffer and struct may stand anywhere.
+ *   - `text` points to text_len readable bytes, `line` to line_len, `errors` to errors_len writable numbers, `buffer` to buffer_len writable bytes. Where the
+ *     length is 0 the pointer is not followed.
+ *   - `count`, `chord`, `length`, `position`, `bar_from` and `bar_len` point to one object each and are never NULL, even where the answer leaves them as they
+ *     were.
+ *   - `errors`, `count` and `length` are aligned as uint16_t is, `position`, `bar_from` and `bar_len` as size_t; text, line, buffer and struct may stand anywhere.
  *   - What a call writes overlaps nothing else that it is lent.
  *
  * No heap, no state between calls, no global memory: calls from several threads need no lock, on memory that they do not share.
@@ -27,9 +29,9 @@
 extern "C" {
 #endif
 
-/* The first number grows when a function or the struct changes its form, the second with any other change of an answer. */
+/* The first number grows when a function or the struct changes its form, the second with a new function and with any other change of an answer. */
 #define NOPHTRIS_VERSION_MAJOR 1
-#define NOPHTRIS_VERSION_MINOR 0
+#define NOPHTRIS_VERSION_MINOR 1
 
 /* The answers. */
 #define NOPHTRIS_ACCEPTED 0     /* read: the struct is filled; written: the spelling stands in the buffer */
@@ -40,9 +42,12 @@ extern "C" {
 #define NOPHTRIS_VALIDATION 5   /* validation found errors */
 #define NOPHTRIS_SHORT_BUFFER 6 /* the buffer holds fewer than 112 bytes */
 #define NOPHTRIS_NO_TEXT 7      /* no accepted text has this root, bass, normalized set and display list */
+#define NOPHTRIS_LONG_LINE 8    /* the song line has more than 4,096 bytes */
+#define NOPHTRIS_END 255        /* the song line has no more bars; end has no number in the paper */
 
 #define NOPHTRIS_ERRORS 1028    /* the numbers that an error list has to hold: four for each of at most 257 errors */
 #define NOPHTRIS_BUFFER 112     /* the bytes that a buffer has to hold; no spelling is longer */
+#define NOPHTRIS_LINE 4096      /* the most bytes of a song line */
 #define NOPHTRIS_NONE 255       /* no root, no bass */
 #define NOPHTRIS_INTERVALS 23
 
@@ -100,6 +105,17 @@ typedef char nophtris_chord_is_51_bytes[sizeof(nophtris_chord) == 51 ? 1 : -1];
  *   0  NOPHTRIS_ACCEPTED     none of these: the struct is filled.
  * All else is left as it was: the list with 0 to 3 and behind the errors, `count` with 0 to 3, the struct with 1 to 5. */
 uint8_t nophtris_read(const uint8_t *text, size_t text_len, uint16_t *errors, size_t errors_len, uint16_t *count, nophtris_chord *chord);
+
+/* One step of a song line of any bytes, whose bars are split at each `|`: reads the bar that begins at `*position` and runs to the next `|` or the line's
+ * end, as nophtris_read reads a text (positions in its errors count from the bar's first byte). Begin at position 0 and call until the answer is
+ * NOPHTRIS_END or NOPHTRIS_LONG_LINE: a line of n bars takes n + 1 calls, and an empty line has one empty bar. Any position may be handed in.
+ *   8    NOPHTRIS_LONG_LINE  the line has more than 4,096 bytes: at each call, so that a loop has to stop here too;
+ *   255  NOPHTRIS_END        the position lies above the line's length: at each call from there on;
+ *   0 to 5                   the answer to the bar, with list, count and struct as nophtris_read leaves them. `*bar_from` and `*bar_len` say where the bar lies
+ *                            in the line, and `*position` is one past it. A refused bar does not end the line; 1 is of the bar too.
+ * With 8 and 255 all is left as it was. */
+uint8_t nophtris_step(const uint8_t *line, size_t line_len, size_t *position, uint16_t *errors, size_t errors_len, uint16_t *count,
+                      nophtris_chord *chord, size_t *bar_from, size_t *bar_len);
 
 /* Writes the house spelling of a record of any bytes. The questions are asked in this order:
  *   6  NOPHTRIS_SHORT_BUFFER the buffer holds fewer than 112 bytes;

@@ -1,7 +1,10 @@
-//! A safe wrapper of the C library: what the two functions ask of their pointers is what Rust's references promise.
+//! A safe wrapper of the C library: what its functions ask of their pointers is what Rust's references promise.
 
 pub const ERRORS: usize = 1028;
 pub const BUFFER: usize = 112;
+pub const LINE: usize = 4096;
+
+const END: u8 = 255;
 
 /// A chord record; any values may stand in it.
 #[repr(C)]
@@ -19,6 +22,18 @@ pub struct Chord {
 }
 
 const _: () = assert!(size_of::<Chord>() == 51);
+
+impl Chord {
+    const NONE: Chord = Chord {
+        root_letter: 255,
+        root_alteration: 0,
+        bass_letter: 255,
+        bass_alteration: 0,
+        normalized: [0; 23],
+        display_count: 0,
+        display: [0; 23],
+    };
+}
 
 /// An error: its kind and its values.
 #[derive(Clone, Copy, Debug, PartialEq, Eq)]
@@ -46,27 +61,23 @@ mod c {
             count: *mut u16,
             chord: *mut super::Chord,
         ) -> u8;
+        pub fn nophtris_step(
+            line: *const u8,
+            line_len: usize,
+            position: *mut usize,
+            errors: *mut u16,
+            errors_len: usize,
+            count: *mut u16,
+            chord: *mut super::Chord,
+            bar_from: *mut usize,
+            bar_len: *mut usize,
+        ) -> u8;
         pub fn nophtris_write(chord: *const super::Chord, buffer: *mut u8, buffer_len: usize, length: *mut u16) -> u8;
     }
 }
 
-/// Reads any bytes.
-pub fn read(text: &[u8]) -> Result<Chord, Refusal> {
-    let mut errors = [0u16; ERRORS];
-    let mut count = 0;
-    let mut chord = Chord {
-        root_letter: 255,
-        root_alteration: 0,
-        bass_letter: 255,
-        bass_alteration: 0,
-        normalized: [0; 23],
-        display_count: 0,
-        display: [0; 23],
-    };
-    // SAFETY: each pointer comes from a slice or a reference, with that slice's length, and no two overlap.
-    let number = unsafe {
-        c::nophtris_read(text.as_ptr(), text.len(), errors.as_mut_ptr(), errors.len(), &mut count, &mut chord)
-    };
+/// The answer of a number 0 or 2 to 5, with the list and the count of its errors.
+fn answer(number: u8, chord: Chord, errors: &[u16], count: u16) -> Result<Chord, Refusal> {
     let list = || errors.chunks(4).take(count as usize).map(|e| Error { kind: e[0], values: [e[1], e[2], e[3]] }).collect();
     match number {
         0 => Ok(chord),
@@ -75,6 +86,54 @@ pub fn read(text: &[u8]) -> Result<Chord, Refusal> {
         4 => Err(Refusal::Parse(list())),
         5 => Err(Refusal::Validation(list())),
         n => unreachable!("{n}"),
+    }
+}
+
+/// Reads any bytes.
+pub fn read(text: &[u8]) -> Result<Chord, Refusal> {
+    let mut errors = [0u16; ERRORS];
+    let mut count = 0;
+    let mut chord = Chord::NONE;
+    // SAFETY: each pointer comes from a slice or a reference, with that slice's length, and no two overlap.
+    let number = unsafe {
+        c::nophtris_read(text.as_ptr(), text.len(), errors.as_mut_ptr(), errors.len(), &mut count, &mut chord)
+    };
+    answer(number, chord, &errors, count)
+}
+
+/// The bars of a song line, each with its answer; none where the line has more than 4,096 bytes.
+pub fn bars(line: &[u8]) -> Option<Bars<'_>> {
+    (line.len() <= LINE).then_some(Bars { line, position: 0 })
+}
+
+pub struct Bars<'a> {
+    line: &'a [u8],
+    position: usize,
+}
+
+impl<'a> Iterator for Bars<'a> {
+    type Item = (&'a [u8], Result<Chord, Refusal>);
+
+    fn next(&mut self) -> Option<Self::Item> {
+        let mut errors = [0u16; ERRORS];
+        let mut count = 0;
+        let mut chord = Chord::NONE;
+        let (mut from, mut len) = (0, 0);
+        // SAFETY: as above.
+        let number = unsafe {
+            c::nophtris_step(
+                self.line.as_ptr(),
+                self.line.len(),
+                &mut self.position,
+                errors.as_mut_ptr(),
+                errors.len(),
+                &mut count,
+                &mut chord,
+                &mut from,
+                &mut len,
+            )
+        };
+        (number != END).then(|| (&self.line[from..from + len], answer(number, chord, &errors, count)))
     }
 }
 
