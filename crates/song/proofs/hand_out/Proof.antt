@@ -88,7 +88,7 @@ module _ {M : Type 1} (𝓤 : URA M) (H : Heap 𝓤) (A : Atoms 𝓤) (W : Given
   abbrev mach : Val
   mach = T′.lowered d
 
-  -- the machine values of what is read, and of the line
+  -- the machine values of the step, and of the line
   abbrev w : Val
   w = LL.val P.the-type P′.the-laws r
 
@@ -128,29 +128,29 @@ module _ {M : Type 1} (𝓤 : URA M) (H : Heap 𝓤) (A : Atoms 𝓤) (W : Given
   abbrev made : RefT (List ℕ) → NextStep
   made t = record { answer = r .answer; chord = r .chord; bar = t; reader = d′ }
 
-  -- what is had at entry: the facts of what is read are not carried
+  -- what is had at entry: the facts of the step are not carried
   opened : ent 𝓤 (onEntry 𝓤 H A fun.signature κs (q, tt) (d, (r, tt)) at) (⋆ 𝓤 H A ((‵ (flft κ q) ⊛ ‵ ftrue) ∷ ‵ Own ∷ []))
   opened = qed W ((‵ (flft κ q) ⊛ ‵ ftrue) ∷ ‵ (owns (B κs ∷ P.the-row ∷ []) (d, (r, tt)) at) ∷ []) ∵ frame ! $ fsplit ! $ move ! (1 ∷ []) $
       drop ! $ done !
 
   -- the call of `part`, at the place in r
-  abbrev passed² : Vals part.signature (κ, tt)
-  passed² = (v ∷ [], (vint w64 (r .from) ∷ [], (vint w64 (r .to) ∷ [], tt)))
+  abbrev passed : Vals part.signature (κ, tt)
+  passed = (v ∷ [], (vint w64 (r .from) ∷ [], (vint w64 (r .to) ∷ [], tt)))
 
-  abbrev to² : PartOf 𝓤 H A mem run .Ghost
-  to² = (((κ, tt), (q, tt), tt, (d .line, (r .from, (r .to, tt))), passed²), tt)
+  abbrev to : PartOf 𝓤 H A mem run .Ghost
+  to = (((κ, tt), (q, tt), tt, (d .line, (r .from, (r .to, tt))), passed), tt)
 
   abbrev Fit : ℕ → ℕ → Type 0
   Fit i j = (i ≤ j) × (j ≤ length (now (d .line)))
 
-  asked² : Fit (r .from) (r .to) → ent 𝓤 (onEntry 𝓤 H A part.signature (κ, tt) (q, tt) (d .line, (r .from, (r .to, tt))) passed²)
-      (PartOf 𝓤 H A mem run .pre to²)
-  asked² g = qed W ((‵ (flft κ q) ⊛ ‵ ftrue) ∷ ‵ (owns (ShrSlice (named 0) κ u8 ∷ usize ∷ usize ∷ [])
-      (d .line, (r .from, (r .to, tt))) passed²) ∷ []) ∵ says ! g $ frame ! $ done !
+  asked : Fit (r .from) (r .to) → ent 𝓤 (onEntry 𝓤 H A part.signature (κ, tt) (q, tt) (d .line, (r .from, (r .to, tt))) passed)
+      (PartOf 𝓤 H A mem run .pre to)
+  asked g = qed W ((‵ (flft κ q) ⊛ ‵ ftrue) ∷ ‵ (owns (ShrSlice (named 0) κ u8 ∷ usize ∷ usize ∷ [])
+      (d .line, (r .from, (r .to, tt))) passed) ∷ []) ∵ says ! g $ frame ! $ done !
 
-  apart² : Fit (r .from) (r .to) → r .from < 2 ^ 64 → r .to < 2 ^ 64
-      → ent 𝓤 (⋆ 𝓤 H A ((‵ (flft κ q) ⊛ ‵ ftrue) ∷ ‵ Own ∷ [])) (sep 𝓤 (PartOf 𝓤 H A mem run .pre to²) (sem 𝓤 H A Own))
-  apart² g from-fits to-fits =
+  apart : Fit (r .from) (r .to) → r .from < 2 ^ 64 → r .to < 2 ^ 64
+      → ent 𝓤 (⋆ 𝓤 H A ((‵ (flft κ q) ⊛ ‵ ftrue) ∷ ‵ Own ∷ [])) (sep 𝓤 (PartOf 𝓤 H A mem run .pre to) (sem 𝓤 H A Own))
+  apart g from-fits to-fits =
       qed W ((‵ (flft κ q) ⊛ ‵ ftrue) ∷ ‵ Own ∷ []) ∵
       move ! (1 ∷ []) $ use1 W (‵ Own ⊛ ‵ Own) (LL.copy D (T′.the-copy (namedLft 1 0 tt κs)) 𝓤 H A W .twice d (mach ∷ [])) $ split ! $
       use1 W (given (mach ∷ [] ≡ mach ∷ []) (‵ (all-own (D .parts) L vd))) (own-open 𝓤 H A W D L vd mach) $
@@ -158,11 +158,11 @@ module _ {M : Type 1} (𝓤 : URA M) (H : Heap 𝓤) (A : Atoms 𝓤) (W : Given
       -- [what the line owns; what at owns; what the reader owns; the token]
       move ! (1 ∷ []) $ drop ! $ nothing ! $ owned ! usize (Is usize) (uint-makes 𝓤 H A W w64) (r .to) _ (refl, to-fits) $ fjoin ! $
       owned ! usize (Is usize) (uint-makes 𝓤 H A W w64) (r .from) _ (refl, from-fits) $ fjoin ! $ move ! (1 ∷ 0 ∷ []) $ fjoin ! $
-      move ! (2 ∷ 0 ∷ []) $ use2 W (raw (PartOf 𝓤 H A mem run .pre to²)) (asked² g) $ frame ! $ done !)
+      move ! (2 ∷ 0 ∷ []) $ use2 W (raw (PartOf 𝓤 H A mem run .pre to)) (asked g) $ frame ! $ done !)
 
-  said² : (t : RefT (List ℕ)) → ent 𝓤 (ensured 𝓤 H A part.ended (part.clauses 𝓤 H A mem run) (κ, tt) (d .line, (r .from, (r .to, tt))) tt t)
+  said : (t : RefT (List ℕ)) → ent 𝓤 (ensured 𝓤 H A part.ended (part.clauses 𝓤 H A mem run) (κ, tt) (d .line, (r .from, (r .to, tt))) tt t)
       (fact 𝓤 (Part (d .line) (r .from) (r .to) t))
-  said² t = exE 𝓤 _ (λ ws. snd∗ 𝓤 (sem 𝓤 H A (lasts part.ended (κ, tt) (d .line, (r .from, (r .to, tt))) ws))
+  said t = exE 𝓤 _ (λ ws. snd∗ 𝓤 (sem 𝓤 H A (lasts part.ended (κ, tt) (d .line, (r .from, (r .to, tt))) ws))
       (fact 𝓤 (Part (d .line) (r .from) (r .to) t)))
 
   -- the step's machine value is of its type
@@ -206,7 +206,7 @@ module _ {M : Type 1} (𝓤 : URA M) (H : Heap 𝓤) (A : Atoms 𝓤) (W : Given
       (LL.owed P.the-type P′.the-laws r (w ∷ []) is .0) $ fjoin ! $
       by ! (own-shut 𝓤 H A W D² L² (r .answer, (r .chord, (t, (d′, tt)))))
 
-  module _ (C : Calls 𝓤 H) (Λ : Loops 𝓤 H) (fm : FmC 𝓤 H (W .laws) C) (known² : Triple 𝓤 (C #bars·part) (PartOf 𝓤 H A mem run)) where
+  module _ (C : Calls 𝓤 H) (Λ : Loops 𝓤 H) (fm : FmC 𝓤 H (W .laws) C) (known : Triple 𝓤 (C #bars·part) (PartOf 𝓤 H A mem run)) where
     walk : Is (B κs) d (mach ∷ []) → Holds (hasTy (T′.mir (named 0)) mach) × WT mach → Is P.the-row r (w ∷ []) → Fit (r .from) (r .to)
         → ent 𝓤 (onEntry 𝓤 H A fun.signature κs (q, tt) (d, (r, tt)) at) (WpFn 𝓤 H C Λ code.function (mach ∷ w ∷ []) Post)
     walk p wt is g =
@@ -218,15 +218,15 @@ module _ {M : Type 1} (𝓤 : URA M) (H : Heap 𝓤) (A : Atoms 𝓤) (W : Given
         assigns ! (of-opd ! (load ! (from ! (fld ! refl (stop !))) (look-in ! 10 (sub ! 0 refl (whole !))))) (from ! (stop !))
         (init ! 4 refl (tt, wt .1 .0)) $
         move ! (14 ∷ []) $ use1 W ((‵ (flft κ q) ⊛ ‵ ftrue) ⊛ ‵ Own) opened $ split ! $
-        use2 W (raw (PartOf 𝓤 H A mem run .pre to²) ⊛ ‵ Own) (apart² g (LL.owed P.the-type P′.the-laws r (w ∷ []) is .1 .1 .0 .1)
+        use2 W (raw (PartOf 𝓤 H A mem run .pre to) ⊛ ‵ Own) (apart g (LL.owed P.the-type P′.the-laws r (w ∷ []) is .1 .1 .0 .1)
         (LL.owed P.the-type P′.the-laws r (w ∷ []) is .1 .1 .1 .0 .1)) $ split ! $
-        calls-at ! fm (PartOf 𝓤 H A mem run) known² to² (and-then ! (load ! (from ! (stop !)) (look ! 6 refl))
+        calls-at ! fm (PartOf 𝓤 H A mem run) known to (and-then ! (load ! (from ! (stop !)) (look ! 6 refl))
         (and-then ! (load ! (from ! (fld ! refl (stop !))) (look-in ! 10 (sub ! 2 refl (whole !))))
         (and-then ! (load ! (from ! (fld ! refl (stop !))) (look-in ! 10 (sub ! 3 refl (whole !)))) (no-more !)))) (λ u′.
         use1 W (later (some (λ (t : RefT (List ℕ)). ((‵ (flft κ q) ⊛ ‵ ftrue) ⊛ ‵ (ShrSlice (named 0) κ u8 .own t (u′ ∷ []))) ⊛ raw
         (ensured 𝓤 H A part.ended (part.clauses 𝓤 H A mem run) (κ, tt) (d .line, (r .from, (r .to, tt))) tt t)))) (id⊢ 𝓤 _) $ await ! tt $
         pick ! (λ t.
-        split ! $ move ! (1 ∷ []) $ use1 W (raw (fact 𝓤 (Part (d .line) (r .from) (r .to) t))) (said² t) $
+        split ! $ move ! (1 ∷ []) $ use1 W (raw (fact 𝓤 (Part (d .line) (r .from) (r .to) t))) (said t) $
         heard ! (Part (d .line) (r .from) (r .to) t) (λ e′. split ! $ move ! (1 ∷ []) $
         -- [what the part owns; the token; what the reader owns; _6; …; _5; …; _4; …; room for _3; …; _2; …; _1; …; room for _0; …]
         peeks ! (ShrSlice (named 0) κ u8) (Is (ShrSlice (named 0) κ u8)) (shows 𝓤 H A (ShrSlice (named 0) κ u8)) t (u′ ∷ []) (λ is′.
@@ -252,11 +252,11 @@ module _ {M : Type 1} (𝓤 : URA M) (H : Heap 𝓤) (A : Atoms 𝓤) (W : Given
 module _ {M : Type 1} (𝓤 : URA M) (H : Heap 𝓤) (A : Atoms 𝓤) (W : Given 𝓤 H A) (mem : Memory → SProp 𝓤) (run : Routine → Fun 𝓤) where
   fun-walks : (C : Calls 𝓤 H) (Λ : Loops 𝓤 H) → FmC 𝓤 H (W .laws) C → Triple 𝓤 (C #bars·part) (PartOf 𝓤 H A mem run)
       → Walks 𝓤 H A fun.ended stayed (WpFn 𝓤 H C Λ code.function) (fun.clauses 𝓤 H A mem run)
-  fun-walks C Λ fm known² = walked 𝓤 H A fun.ended stayed (fun.clauses 𝓤 H A mem run) (WpFn 𝓤 H C Λ code.function)
+  fun-walks C Λ fm known = walked 𝓤 H A fun.ended stayed (fun.clauses 𝓤 H A mem run) (WpFn 𝓤 H C Λ code.function)
       (λ κs. (LL.vals (T.the-type (namedLft 1 0 tt κs)) (T′.the-laws (namedLft 1 0 tt κs)), (LL.vals P.the-type P′.the-laws, tt)))
       (λ κs. (LL.tells (T.the-type (namedLft 1 0 tt κs)) (T′.the-laws (namedLft 1 0 tt κs)), (LL.tells P.the-type P′.the-laws, tt)))
       (λ κs qs bounds a g are. needs 𝓤 ((a .1 .0 .from ≤ a .1 .0 .to) × (a .1 .0 .to ≤ length (a .0 .line .now))) _
-      (λ within. walk 𝓤 H A W mem run (κs .0) (qs .0) (a .0) (a .1 .0) C Λ fm known²
+      (λ within. walk 𝓤 H A W mem run (κs .0) (qs .0) (a .0) (a .1 .0) C Λ fm known
       (are .0) (LL.lawful (T.the-type (namedLft 1 0 tt κs)) (T′.the-laws (namedLft 1 0 tt κs)) 𝓤 H A W .typed (a .0) _ (are .0) .0)
       (are .1 .0) within))
 
@@ -264,12 +264,12 @@ fun-meets : {M : Type 1} (𝓤 : URA M) (H : Heap 𝓤) (A : Atoms 𝓤) (W : Gi
     (𝓣 : Tables 𝓤 H)
     → Triple 𝓤 (𝓣 .C #bars·part) (PartOf 𝓤 H A mem run)
     → Meets 𝓤 H A fun.signature (WpFn 𝓤 H (𝓣 .C) (𝓣 .Λ) code.function) (fun.spec 𝓤 H A mem run)
-fun-meets 𝓤 H A W mem run 𝓣 known² = walk-meets 𝓤 H A fun.ended stayed W (
+fun-meets 𝓤 H A W mem run 𝓣 known = walk-meets 𝓤 H A fun.ended stayed W (
   goes-none 𝓤 H A W 1 B yes (λ κs x f. refl),
   (goes-none 𝓤 H A W 1 (λ _. P.the-row) yes (λ κs x f. refl), tt),
 ) (fun.clauses 𝓤 H A mem run) (WpFn 𝓤 H (𝓣 .C) (𝓣 .Λ) code.function)
     (WpFn-mono 𝓤 H (W .laws) 𝓣 code.function)
-    (fun-walks 𝓤 H A W mem run (𝓣 .C) (𝓣 .Λ) (fmOf 𝓤 H (W .laws) 𝓣) known²)
+    (fun-walks 𝓤 H A W mem run (𝓣 .C) (𝓣 .Λ) (fmOf 𝓤 H (W .laws) 𝓣) known)
 
 pub hand-out-spec : {M : Type 1} → stated.statement M
 unfolding code.routine tablesOf

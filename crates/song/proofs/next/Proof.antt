@@ -128,7 +128,7 @@ module _ {M : Type 1} (𝓤 : URA M) (H : Heap 𝓤) (A : Atoms 𝓤) (W : Given
       (T′.the-copy (namedLft 2 0 tt κs)) 𝓤 H A W .twice d (mach ∷ [])) $ split ! $
       move ! (0 ∷ 2 ∷ []) $ fjoin ! $ move ! (2 ∷ 0 ∷ []) $ use2 W (raw (StepOf 𝓤 H A mem run .pre to)) asked $ frame ! $ done !
 
-  -- the call of `hand_out`, at what was read, with the machine value u
+  -- the call of `hand_out`, at the step, with the machine value u
   abbrev to² : Step → Val → HandOut 𝓤 H A mem run .Ghost
   to² r u = (((κ, tt), (q, tt), tt, (d, (r, tt)), (mach ∷ [], (u ∷ [], tt))), tt)
 
@@ -207,7 +207,7 @@ module _ {M : Type 1} (𝓤 : URA M) (H : Heap 𝓤) (A : Atoms 𝓤) (W : Given
         -- [what is said of the last values; the tokens and the result; what the reader owns; _7; …]
         fsplit ! $ drop ! $ fsplit ! $ fsplit ! $ move ! (1 ∷ []) $ feqL ! (λ l. move ! (1 ∷ []) $ drop ! $ move ! (1 ∷ []) $ split ! $
         move ! (1 ∷ []) $
-        -- [what was read; the tokens; the last list; what the reader owns; _5; …; _4; …; room for _3; …; _2; …; _1; …; room for _0; …]
+        -- [the step; the tokens; the last list; what the reader owns; _5; …; _4; …; room for _3; …; _2; …; _1; …; room for _0; …]
         peeks ! P.the-row (Is P.the-row) (shows 𝓤 H A P.the-row) r (u ∷ []) (λ is.
         land ! (from ! (stop !)) (init ! 12 refl (LL.lawful P.the-type P′.the-laws 𝓤 H A W .typed r _ is .0)) $
         assigns ! (of-opd ! (load ! (from ! (stop !)) (look ! 16 refl))) (from ! (stop !)) (init ! 4 refl (tt, wt .1)) $
