@@ -3,18 +3,14 @@ use mathlib.Core.List.{List}
 use mathlib.Core.Path.{_≡_}
 use Prim.Native.Nat.{ℕ}
 use lib.ListN.{length}
-use denote.Ref.{now}
 use Rattle.chord.specs.Chord.{noChord, recordOf}
 use Rattle.chord.specs.declared.Chord.{Chord}
 use Rattle.bars.specs.Bars.{placeAt}
-use Rattle.bars.specs.State.{Part}
 use Rattle.reader.specs.State.{ReadGave}
 use Rattle.reader.specs.declared.Answer.{Answer as ReadAnswer}
 use Rattle.song.specs.Song.{StepOutcome, eight, end, bar, stepOf}
 use Rattle.song.specs.declared.Answer.the-variants.{TooLong, End, Bar}
 use Rattle.song.specs.declared.Answer.{Answer}
-use Rattle.song.specs.declared.LineReader.{LineReader}
-use Rattle.song.specs.declared.NextStep.{NextStep}
 use Rattle.song.specs.declared.Step.{Step}
 
 -- "Here and below a new number leaves lent memory untouched", and so does end; with a bar, all is as reading its text leaves it
@@ -29,18 +25,3 @@ pub record Stepped (line : List ℕ) (p : ℕ) (s : Step) (es es′ : List ℕ) 
   pub from : s .from ≡ placeAt line p .from
   pub to : s .to ≡ placeAt line p .to
   pub next : s .next ≡ placeAt line p .next
-
--- what a caller of `next` knows: the reader r gave t; "hands out the next bar as a part of the line"
-pub record NextStepped (r : LineReader) (t : NextStep) (es es′ : List ℕ) : Type 0 where
-  pub said : StepGave (stepOf (length es) (now (r .line)) (r .at)) (t .answer) (t .chord) es es′
-  pub bar : Part (r .line) (placeAt (now (r .line)) (r .at) .from) (placeAt (now (r .line)) (r .at) .to) (t .bar)
-  pub line : t .reader .line ≡ r .line
-  pub at : t .reader .at ≡ placeAt (now (r .line)) (r .at) .next
-
--- bookkeeping of a private contract: the step s is handed out as t
-pub record Handed (r : LineReader) (s : Step) (t : NextStep) : Type 0 where
-  pub answer : t .answer ≡ s .answer
-  pub chord : t .chord ≡ s .chord
-  pub bar : Part (r .line) (s .from) (s .to) (t .bar)
-  pub line : t .reader .line ≡ r .line
-  pub at : t .reader .at ≡ s .next

@@ -1,10 +1,8 @@
-// Song lines: a step reads the bar at a position, and a reader that holds the line hands out one bar after the other.
+// Song lines: a step reads the bar at a position.
 ghost use mathlib.Core.Path.{_≡_};
-ghost use Prim.Native.Nat.{_≤_};
-ghost use lib.ListN.{length};
 ghost use Rattle.chord.specs.Chord.{noChord, recordOf};
 ghost use Rattle.song.specs.declared.Answer.the-variants.{Bar};
-ghost use Rattle.song.specs.State.{Handed, NextStepped, Stepped};
+ghost use Rattle.song.specs.State.{Stepped};
 use bars::Found;
 use bars::Place;
 use chord::Chord;
@@ -78,57 +76,4 @@ pub fn step_at(line: &[u8], at: usize, errs: &mut [u16]) -> Step
             with_bar(reading, place)
         }
     }
-}
-
-// A lent line and a position in it, which may be any.
-pub struct LineReader<'a> {
-    pub line: &'a [u8],
-    pub at: usize,
-}
-
-// What a step says, the record, the bar as a part of the line, and the reader after the step.
-pub struct NextStep<'a> {
-    pub answer: Answer,
-    pub chord: Chord,
-    pub bar: &'a [u8],
-    pub reader: LineReader<'a>,
-}
-
-// A reader at a position of a line: 0 for its first bar.
-pub fn new<'a>(line: &'a [u8], at: usize) -> LineReader<'a>
-    ensures { λ r. ⌜ (r .line ≡ line .entry) × (r .at ≡ at) ⌝ }
-{
-    LineReader { line, at }
-}
-
-// The step at a reader's position.
-fn step_of<'a>(r: LineReader<'a>, errs: &mut [u16]) -> Step
-    ensures { λ s. ⌜ Stepped (now (r .entry .line)) (r .entry .at) s (now (errs .entry)) (now (errs .exit)) ⌝ }
-{
-    step_at(r.line, r.at, errs)
-}
-
-// The bar of a step is cut out of the line, and the reader moves on.
-fn hand_out<'a>(r: LineReader<'a>, s: Step) -> NextStep<'a>
-    requires { ⌜ (s .from ≤ s .to) × (s .to ≤ length (now (r .line))) ⌝ }
-    ensures { λ t. ⌜ Handed (r .entry) s t ⌝ }
-{
-    let bar = bars::part(r.line, s.from, s.to);
-    NextStep {
-        answer: s.answer,
-        chord: s.chord,
-        bar,
-        reader: LineReader {
-            line: r.line,
-            at: s.next,
-        },
-    }
-}
-
-// The reader's next step, with any lent list.
-pub fn next<'a>(r: LineReader<'a>, errs: &mut [u16]) -> NextStep<'a>
-    ensures { λ t. ⌜ NextStepped (r .entry) t (now (errs .entry)) (now (errs .exit)) ⌝ }
-{
-    let s = step_of(r, errs);
-    hand_out(r, s)
 }

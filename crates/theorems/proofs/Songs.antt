@@ -19,7 +19,7 @@ use Rattle.song.specs.Song.{StepOutcome, bar, eight, end, outcomeOf, stepOf}
 use Rattle.song.specs.State.{StepGave, Stepped}
 use Rattle.song.specs.declared.Answer.the-variants.{TooLong, End, Bar}
 use Rattle.song.specs.declared.Answer.{Answer}
-use Rattle.song.specs.declared.LineReader.{LineReader}
+use Rattle.line_reader.specs.declared.LineReader.{LineReader}
 use Rattle.theorems.proofs.Walks.{all-say, answers, from-start, handed-line}
 use Rattle.theorems.specs.Song.{AllBars, AlwaysEight, Answers, BarsFrom, Call, CallReads, CallSays, Calls, HandedOut, NextAllBars, NextAlwaysEight, NextBarsFrom, NextCall, NextCalls, NextHandedOut, NextReads, NextSays, NextTurns, ReadsBar, ReadsNone, SaysBar, StepTurns, Turn, barsFrom, cutBy}
 
@@ -178,7 +178,7 @@ always-eight line p cs h run = all-say (Calls line) Any (CallSays TooLong) (eigh
 -- ---- calls of `next`: the reader keeps its line
 
 pub next-turns : NextTurns
-next-turns r t es es′ g = turn (now (r .line)) (r .at) (t .reader .at) (t .answer) (t .chord) es es′ (g .said) (g .at)
+next-turns r t es es′ g = turn (now (r .line)) (r .at) (t .reader .at) (t .step .answer) (t .step .chord) es es′ (g .step .said) (g .at)
 
 module _ (line : Line) where
   abbrev Holds : LineReader → Type 0
@@ -203,24 +203,27 @@ module _ (line : Line) where
         (λ a b. record { bar = own a b; part = (_, _, d .0 .bar) }) h k
       where
         own : length (now (r .line)) ≤ longestLine → r .at ≤ length (now (r .line))
-            → ReadsBar (barAt (now (r .line)) (r .at)) (c .step .answer) (c .step .chord) (c .es) (c .es′) (now (c .step .bar))
+            → ReadsBar (barAt (now (r .line)) (r .at)) (c .next .step .answer) (c .next .step .chord) (c .es) (c .es′) (now (c .next .bar))
         own a b =
             let l = now (r .line) in
             let cut = d .0 .bar .bytes ∙ bar-cut l (r .at) (placeAt l (r .at)) refl
             (ap (λ (q : Place). q .found) (place-here l (r .at) a b)) in
-            reads-bar l (r .at) (c .step .reader .at) (c .step .answer) (c .step .chord) (c .es) (c .es′) (d .0 .said) (d .0 .at) a b _ cut
+            reads-bar l (r .at) (c .next .reader .at) (c .next .step .answer) (c .next .step .chord) (c .es) (c .es′) (d .0 .step .said)
+            (d .0 .at) a b _ cut
 
     next-ends : length (now line) ≤ longestLine → length (now line) < r .at → NextSays End c
     next-ends h k =
         of-line (λ (x : Line). length (now x) ≤ longestLine → length (now x) < r .at → NextSays End c)
-        (reads-none-past (now (r .line)) (r .at) (c .step .reader .at) (c .step .answer) (c .step .chord) (c .es) (c .es′) (d .0 .said)
+        (reads-none-past (now (r .line)) (r .at) (c .next .reader .at) (c .next .step .answer) (c .next .step .chord) (c .es) (c .es′)
+        (d .0 .step .said)
         (d .0 .at))
         h k
 
     next-eight : longestLine < length (now line) → NextSays TooLong c
     next-eight h =
         of-line (λ (x : Line). longestLine < length (now x) → NextSays TooLong c)
-        (reads-none-over (now (r .line)) (r .at) (c .step .reader .at) (c .step .answer) (c .step .chord) (c .es) (c .es′) (d .0 .said)
+        (reads-none-over (now (r .line)) (r .at) (c .next .reader .at) (c .next .step .answer) (c .next .step .chord) (c .es) (c .es′)
+        (d .0 .step .said)
         (d .0 .at))
         h
 
@@ -249,7 +252,7 @@ next-all-bars r cs z h run =
 
 pub next-handed-out : NextHandedOut
 next-handed-out r cs z h run n =
-    handed-line (λ (c : NextCall). now (c .step .bar)) (NextReads (r .line)) (NextSays End) (λ b c g. g .bar .bytes) (now (r .line)) cs n
+    handed-line (λ (c : NextCall). now (c .next .bar)) (NextReads (r .line)) (NextSays End) (λ b c g. g .bar .bytes) (now (r .line)) cs n
     (next-all-bars r cs z h run)
 
 pub next-always-eight : NextAlwaysEight

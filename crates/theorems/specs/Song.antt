@@ -1,5 +1,6 @@
 -- What document 02, [1], says of a song line: of its bars, of one step, and of steps one after the other. The only premises are the
--- contracts of `song::step_at` (`Stepped`) and of `song::next`, which goes through a reader that holds the line (`NextStepped`). What is
+-- contracts of `song::step_at` (`Stepped`) and of `line_reader::next`, which goes through a reader that holds the line (`NextStepped`).
+-- What is
 -- said of a line and of calls is said once, for the C boundary too (`CSong`).
 use mathlib.Core.Bool.{cond}
 use mathlib.Core.List.{List, [], _∷_, _++_, map}
@@ -16,11 +17,12 @@ use Rattle.bars.specs.State.{Line, Part}
 use Rattle.parser.specs.All.{All}
 use Rattle.reader.specs.State.{Read}
 use Rattle.reader.specs.declared.Answer.{Answer as ReadAnswer}
-use Rattle.song.specs.State.{NextStepped, Stepped}
+use Rattle.line_reader.specs.State.{NextStepped}
+use Rattle.line_reader.specs.declared.LineReader.{LineReader}
+use Rattle.line_reader.specs.declared.NextStep.{NextStep}
+use Rattle.song.specs.State.{Stepped}
 use Rattle.song.specs.declared.Answer.the-variants.{TooLong, End, Bar}
 use Rattle.song.specs.declared.Answer.{Answer}
-use Rattle.song.specs.declared.LineReader.{LineReader}
-use Rattle.song.specs.declared.NextStep.{NextStep}
 use Rattle.song.specs.declared.Step.{Step}
 
 -- ---- the bars of a line
@@ -69,7 +71,7 @@ StepTurns =
 abbrev pub NextTurns : Type 0
 NextTurns =
     (r : LineReader) (t : NextStep) (es es′ : List ℕ) → NextStepped r t es es′
-    → Turn (now (r .line)) (r .at) (t .reader .at) (t .answer ≡ TooLong) (t .answer ≡ End) (SaysBar (t .answer))
+    → Turn (now (r .line)) (r .at) (t .reader .at) (t .step .answer ≡ TooLong) (t .step .answer ≡ End) (SaysBar (t .step .answer))
 
 -- ---- calls, one after the other
 
@@ -147,18 +149,18 @@ AlwaysEight = (line : List ℕ) (p : ℕ) (cs : List Call) → longestLine < len
 pub record NextCall : Type 0 where
   pub es : List ℕ
   pub es′ : List ℕ
-  pub step : NextStep
+  pub next : NextStep
 
 abbrev pub NextCalls : LineReader → NextCall → LineReader → Type 0
-NextCalls r c r′ = NextStepped r (c .step) (c .es) (c .es′) × (r′ ≡ c .step .reader)
+NextCalls r c r′ = NextStepped r (c .next) (c .es) (c .es′) × (r′ ≡ c .next .reader)
 
 -- the bar is handed out "as a part of the line"
 pub record NextReads (line : Line) (b : List ℕ) (c : NextCall) : Type 0 where
-  pub bar : ReadsBar b (c .step .answer) (c .step .chord) (c .es) (c .es′) (now (c .step .bar))
-  pub part : (from : ℕ) × (to : ℕ) × Part line from to (c .step .bar)
+  pub bar : ReadsBar b (c .next .step .answer) (c .next .step .chord) (c .es) (c .es′) (now (c .next .bar))
+  pub part : (from : ℕ) × (to : ℕ) × Part line from to (c .next .bar)
 
 abbrev pub NextSays : Answer → NextCall → Type 0
-NextSays n c = ReadsNone n (c .step .answer) (c .step .chord) (c .es) (c .es′)
+NextSays n c = ReadsNone n (c .next .step .answer) (c .next .step .chord) (c .es) (c .es′)
 
 abbrev pub NextBarsFrom : Type 0
 NextBarsFrom =
@@ -174,7 +176,7 @@ abbrev pub NextHandedOut : Type 0
 NextHandedOut =
     (r : LineReader) (cs : List NextCall) → r .at ≡ 0 → length (now (r .line)) ≤ longestLine → Run NextCalls r cs
     → length cs ≡ length (barsOf (now (r .line)))
-    → joined (map (λ (c : NextCall). now (c .step .bar)) cs) ≡ now (r .line)
+    → joined (map (λ (c : NextCall). now (c .next .bar)) cs) ≡ now (r .line)
 
 abbrev pub NextAlwaysEight : Type 0
 NextAlwaysEight = (r : LineReader) (cs : List NextCall) → longestLine < length (now (r .line)) → Run NextCalls r cs

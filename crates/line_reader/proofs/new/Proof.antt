@@ -1,4 +1,4 @@
--- `song::new` meets its contract: a walk of its MIR, by hand. A `LineReader` is made of the slice and the number passed, in the result's
+-- `line_reader::new` meets its contract: a walk of its MIR, by hand. A `LineReader` is made of the slice and the number passed, in the result's
 -- local. A `&[u8]` is Copy, so what it owns is had twice: once for the line at exit, and once inside the result, beside the facts of the
 -- number.
 -- Assumes nothing.
@@ -35,13 +35,13 @@ use denote.Triple.Spec.{Meets, tripleOf}
 use denote.Triple.Table.{entered}
 use denote.Triple.Walked.{says, Stays, stay-none, stay-none-slice, walkOf, goes-none, goes-none-slice, Walks, ends-at, walked, walk-meets}
 use denote.Exit.{yes}
-use Rattle.song.specs.declared.LineReader.{LineReader}
-use Rattle.song.proofs.LineReader as T
-use Rattle.song.proofs.LineReader.Laws as T′
-use Rattle.song.proofs.new.Key.{name as #song·new}
-use Rattle.song.proofs.new as new
-use Rattle.song.proofs.new.Statement as stated
-use Rattle.song.proofs.new.Code as code
+use Rattle.line_reader.specs.declared.LineReader.{LineReader}
+use Rattle.line_reader.proofs.LineReader as T
+use Rattle.line_reader.proofs.LineReader.Laws as T′
+use Rattle.line_reader.proofs.new.Key.{name as #new}
+use Rattle.line_reader.proofs.new as new
+use Rattle.line_reader.proofs.new.Statement as stated
+use Rattle.line_reader.proofs.new.Code as code
 
 abbrev stayed : Stays (new.ended .signature .params) (new.ended .kept)
 stayed = (stay-none-slice (0 ∷ []) tt (plain (λ _. u8)) yes, (stay-none (λ _. usize) yes, tt))
@@ -117,5 +117,5 @@ pub new-spec : {M : Type 1} → stated.statement M
 unfolding code.routine tablesOf
 new-spec 𝓤 H 𝓜 𝓖 𝓡 =
     entered 𝓤 H (tripleOf 𝓤 H (𝓖 .A) new.signature (new.spec 𝓤 H (𝓖 .A) (𝓜 .mem) (𝓡 .run)))
-    (tables 𝓤 H 𝓜 𝓡 code.env .C) (tables 𝓤 H 𝓜 𝓡 code.env .Λ) #song·new code.function (code.unfolded 𝓤 H 𝓜 𝓡)
+    (tables 𝓤 H 𝓜 𝓡 code.env .C) (tables 𝓤 H 𝓜 𝓡 code.env .Λ) #new code.function (code.unfolded 𝓤 H 𝓜 𝓡)
     (new-meets 𝓤 H (𝓖 .A) (givenOf 𝓤 H 𝓜 𝓖) (𝓜 .mem) (𝓡 .run) (tablesOf 𝓤 H 𝓜 (tables 𝓤 H 𝓜 𝓡 code.env)))

@@ -1,4 +1,4 @@
--- `song::next` meets its contract: a walk of its MIR, by hand. The reader goes to `step_of`, with the lent list, and to `hand_out`, with
+-- `line_reader::next` meets its contract: a walk of its MIR, by hand. The reader goes to `step_of`, with the lent list, and to `hand_out`, with
 -- the step. All that the proof knows of the two is that each meets its contract.
 -- Assumes nothing.
 use mathlib.Core.Path.{_≡_, refl, sym, subst, _∙_}
@@ -38,34 +38,33 @@ use denote.Triple.Table.{entered, cited}
 use denote.Triple.Walked.{says, Stays, stay-none, gave-slice, walkOf, goes-none, goes-gave-slice, Walks, ends-at, walked, walk-meets}
 use denote.Exit.{yes}
 use denote.Triple.Clauses.{ensured, lasts}
-use Rattle.song.specs.Song.{stepOf}
-use Rattle.song.specs.State.{StepGave, Stepped, Handed, NextStepped}
-use Rattle.song.specs.declared.Answer.{Answer}
+use Rattle.song.specs.State.{StepGave, Stepped}
+use Rattle.line_reader.specs.State.{Handed, NextStepped}
 use Rattle.song.specs.declared.Step.{Step}
-use Rattle.song.specs.declared.NextStep.{NextStep}
+use Rattle.line_reader.specs.declared.NextStep.{NextStep}
 use Rattle.chord.specs.declared.Chord.{Chord}
 use Rattle.bars.specs.Bars.{placeAt}
 use Rattle.bars.specs.State.{Part}
-use Rattle.song.specs.declared.LineReader.{LineReader}
+use Rattle.line_reader.specs.declared.LineReader.{LineReader}
 use Rattle.song.proofs.Laws.{step-within}
 use Rattle.song.proofs.Step as P
 use Rattle.song.proofs.Step.Laws as P′
-use Rattle.song.proofs.LineReader as T
-use Rattle.song.proofs.LineReader.Laws as T′
-use Rattle.song.proofs.NextStep as S
-use Rattle.song.proofs.NextStep.Laws as S′
-use Rattle.song.proofs.step_of as step-of
-use Rattle.song.proofs.step_of.Symbol as step-of-def
-use Rattle.song.proofs.step_of.Symbol.{name as #step-of}
-use Rattle.song.proofs.step_of.Met as step-of-thm
-use Rattle.song.proofs.hand_out as hand-out
-use Rattle.song.proofs.hand_out.Symbol as hand-out-def
-use Rattle.song.proofs.hand_out.Symbol.{name as #hand-out}
-use Rattle.song.proofs.hand_out.Met as hand-out-thm
-use Rattle.song.proofs.next.Key.{name as #next}
-use Rattle.song.proofs.next as next
-use Rattle.song.proofs.next.Statement as stated
-use Rattle.song.proofs.next.Code as code
+use Rattle.line_reader.proofs.LineReader as T
+use Rattle.line_reader.proofs.LineReader.Laws as T′
+use Rattle.line_reader.proofs.NextStep as S
+use Rattle.line_reader.proofs.NextStep.Laws as S′
+use Rattle.line_reader.proofs.step_of as step-of
+use Rattle.line_reader.proofs.step_of.Symbol as step-of-def
+use Rattle.line_reader.proofs.step_of.Symbol.{name as #step-of}
+use Rattle.line_reader.proofs.step_of.Met as step-of-thm
+use Rattle.line_reader.proofs.hand_out as hand-out
+use Rattle.line_reader.proofs.hand_out.Symbol as hand-out-def
+use Rattle.line_reader.proofs.hand_out.Symbol.{name as #hand-out}
+use Rattle.line_reader.proofs.hand_out.Met as hand-out-thm
+use Rattle.line_reader.proofs.next.Key.{name as #next}
+use Rattle.line_reader.proofs.next as next
+use Rattle.line_reader.proofs.next.Statement as stated
+use Rattle.line_reader.proofs.next.Code as code
 
 -- the struct's type, over the signature's lifetimes
 abbrev B : Lfts 2 → RattleType
@@ -158,12 +157,11 @@ module _ {M : Type 1} (𝓤 : URA M) (H : Heap 𝓤) (A : Atoms 𝓤) (W : Given
   stepped : (r : Step) (zs : List ℕ) (t : NextStep) → Says r zs → Handed d r t → NextStepped d t ys zs
   stepped r zs t e h =
       let f = placeAt (now (d .line)) (d .at) .from in
-      let o = stepOf (length ys) (now (d .line)) (d .at) in
       record {
-        said = subst (λ (c : Chord). StepGave o (t .answer) c ys zs) (sym (h .chord))
-            (subst (λ (a : Answer). StepGave o a (r .chord) ys zs) (sym (h .answer)) (e .said));
-        bar = subst (λ (j : ℕ). Part (d .line) f j (t .bar)) (e .to) (subst (λ (i : ℕ). Part (d .line) i (r .to) (t .bar)) (e .from)
-            (h .bar));
+        step = subst (λ (s : Step). Says s zs) (sym (h .step)) e;
+        bar =
+            subst (λ (j : ℕ). Part (d .line) f j (t .bar)) (e .to)
+            (subst (λ (i : ℕ). Part (d .line) i (r .to) (t .bar)) (e .from) (h .bar));
         line = h .line;
         at = h .at ∙ e .next;
       }
@@ -262,7 +260,7 @@ next-spec 𝓤 H 𝓜 𝓖 𝓡 =
     entered 𝓤 H (tripleOf 𝓤 H (𝓖 .A) next.signature (next.spec 𝓤 H (𝓖 .A) (𝓜 .mem) (𝓡 .run)))
     (tables 𝓤 H 𝓜 𝓡 code.env .C) (tables 𝓤 H 𝓜 𝓡 code.env .Λ) #next code.function (code.unfolded 𝓤 H 𝓜 𝓡)
     (next-meets 𝓤 H (𝓖 .A) (givenOf 𝓤 H 𝓜 𝓖) (𝓜 .mem) (𝓡 .run) (tablesOf 𝓤 H 𝓜 (tables 𝓤 H 𝓜 𝓡 code.env))
-    (cited 𝓤 H (StepOf 𝓤 H (𝓖 .A) (𝓜 .mem) (𝓡 .run)) 𝓜 𝓡 code.env #step-of step-of-def.routine code.calls-song·step-of
+    (cited 𝓤 H (StepOf 𝓤 H (𝓖 .A) (𝓜 .mem) (𝓡 .run)) 𝓜 𝓡 code.env #step-of step-of-def.routine code.calls-line-reader·step-of
     (step-of-thm.met 𝓤 H 𝓜 𝓖 𝓡))
-    (cited 𝓤 H (HandOut 𝓤 H (𝓖 .A) (𝓜 .mem) (𝓡 .run)) 𝓜 𝓡 code.env #hand-out hand-out-def.routine code.calls-song·hand-out
+    (cited 𝓤 H (HandOut 𝓤 H (𝓖 .A) (𝓜 .mem) (𝓡 .run)) 𝓜 𝓡 code.env #hand-out hand-out-def.routine code.calls-line-reader·hand-out
     (hand-out-thm.met 𝓤 H 𝓜 𝓖 𝓡)))

@@ -1,4 +1,4 @@
--- `song::step_of` meets its contract: a walk of its MIR, by hand. The reader is taken apart, and `step_at` is called with its line, its
+-- `line_reader::step_of` meets its contract: a walk of its MIR, by hand. The reader is taken apart, and `step_at` is called with its line, its
 -- position and the lent list, which goes there at its own lifetime. All that the proof knows of `step_at` is that it meets its contract.
 -- Assumes nothing.
 use mathlib.Core.Path.{_≡_, refl}
@@ -42,21 +42,21 @@ use denote.Triple.Table.{entered, cited}
 use denote.Triple.Walked.{says, Stays, stay-none, gave-slice, walkOf, goes-none, goes-gave-slice, Walks, ends-at, walked, walk-meets}
 use denote.Exit.{yes}
 use denote.Triple.Clauses.{ensured, lasts}
 use Rattle.song.specs.State.{Stepped}
 use Rattle.song.specs.declared.Step.{Step}
-use Rattle.song.specs.declared.LineReader.{LineReader}
+use Rattle.line_reader.specs.declared.LineReader.{LineReader}
 use Rattle.song.proofs.Step as P
 use Rattle.song.proofs.Step.Laws as P′
-use Rattle.song.proofs.LineReader as T
-use Rattle.song.proofs.LineReader.Laws as T′
+use Rattle.line_reader.proofs.LineReader as T
+use Rattle.line_reader.proofs.LineReader.Laws as T′
 use Rattle.song.proofs.step_at as step-at
 use Rattle.song.proofs.step_at.Symbol as step-at-def
 use Rattle.song.proofs.step_at.Symbol.{name as #step-at}
 use Rattle.song.proofs.step_at.Met as step-at-thm
-use Rattle.song.proofs.step_of.Key.{name as #step-of}
-use Rattle.song.proofs.step_of as fun
-use Rattle.song.proofs.step_of.Statement as stated
-use Rattle.song.proofs.step_of.Code as code
+use Rattle.line_reader.proofs.step_of.Key.{name as #step-of}
+use Rattle.line_reader.proofs.step_of as fun
+use Rattle.line_reader.proofs.step_of.Statement as stated
+use Rattle.line_reader.proofs.step_of.Code as code
 
 -- the struct's type, over the signature's lifetimes
 abbrev B : Lfts 2 → RattleType

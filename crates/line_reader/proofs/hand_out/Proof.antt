@@ -1,4 +1,4 @@
--- `song::hand_out` meets its contract: a walk of its MIR, by hand. The reader is taken apart, `bars::part` is called with its line and the
+-- `line_reader::hand_out` meets its contract: a walk of its MIR, by hand. The reader is taken apart, `bars::part` is called with its line and the
 -- step's place, and the next step is made.
 -- Assumes nothing.
 use mathlib.Core.Path.{_≡_, refl, ap, subst}
@@ -31,7 +31,6 @@ use denote.Ref.{RefT, now}
 use denote.Signature.{namedLft}
 use denote.Slice.{sliceTy, sliceVal, ShrSlice, shr-slice-tells, shr-slice-lawful}
 use denote.Steps.{only, owned, peeks, facts, heard, nothing}
-use denote.Enum.Laws as EL
 use denote.Struct.Declared.{Declared}
 use denote.Struct.Laws as LL
 use denote.Struct.Rest.{all-own, ownAt, rest, own-open, own-out, own-put, own-shut}
@@ -44,29 +43,25 @@ use denote.Triple.Table.{entered, cited}
 use denote.Triple.Walked.{says, needs, Stays, stay-none, walkOf, goes-none, Walks, ends-at, walked, walk-meets}
 use denote.Exit.{yes}
 use denote.Triple.Clauses.{ensured, lasts}
-use Rattle.song.specs.State.{Handed}
+use Rattle.line_reader.specs.State.{Handed}
 use Rattle.song.specs.declared.Step.{Step}
-use Rattle.song.specs.declared.NextStep.{NextStep}
+use Rattle.line_reader.specs.declared.NextStep.{NextStep}
 use Rattle.bars.specs.State.{Part}
-use Rattle.song.specs.declared.LineReader.{LineReader}
-use Rattle.chord.proofs.Chord as K
-use Rattle.chord.proofs.Chord.Laws as K′
-use Rattle.song.proofs.Answer as E
-use Rattle.song.proofs.Answer.Laws as E′
+use Rattle.line_reader.specs.declared.LineReader.{LineReader}
 use Rattle.song.proofs.Step as P
 use Rattle.song.proofs.Step.Laws as P′
-use Rattle.song.proofs.LineReader as T
-use Rattle.song.proofs.LineReader.Laws as T′
-use Rattle.song.proofs.NextStep as S
-use Rattle.song.proofs.NextStep.Laws as S′
+use Rattle.line_reader.proofs.LineReader as T
+use Rattle.line_reader.proofs.LineReader.Laws as T′
+use Rattle.line_reader.proofs.NextStep as S
+use Rattle.line_reader.proofs.NextStep.Laws as S′
 use Rattle.bars.proofs.part as part
 use Rattle.bars.proofs.part.Symbol as part-def
 use Rattle.bars.proofs.part.Symbol.{name as #bars·part}
 use Rattle.bars.proofs.part.Met as part-thm
-use Rattle.song.proofs.hand_out.Key.{name as #hand-out}
-use Rattle.song.proofs.hand_out as fun
-use Rattle.song.proofs.hand_out.Statement as stated
-use Rattle.song.proofs.hand_out.Code as code
+use Rattle.line_reader.proofs.hand_out.Key.{name as #hand-out}
+use Rattle.line_reader.proofs.hand_out as fun
+use Rattle.line_reader.proofs.hand_out.Statement as stated
+use Rattle.line_reader.proofs.hand_out.Code as code
 
 -- the struct's type, over the signature's lifetimes
 abbrev B : Lfts 1 → RattleType
@@ -126,7 +121,7 @@ module _ {M : Type 1} (𝓤 : URA M) (H : Heap 𝓤) (A : Atoms 𝓤) (W : Given
   d′ = record { line = d .line; at = r .next }
 
   abbrev made : RefT (List ℕ) → NextStep
-  made t = record { answer = r .answer; chord = r .chord; bar = t; reader = d′ }
+  made t = record { step = r; bar = t; reader = d′ }
 
   -- what is had at entry: the facts of the step are not carried
   opened : ent 𝓤 (onEntry 𝓤 H A fun.signature κs (q, tt) (d, (r, tt)) at) (⋆ 𝓤 H A ((‵ (flft κ q) ⊛ ‵ ftrue) ∷ ‵ Own ∷ []))
@@ -171,18 +166,15 @@ module _ {M : Type 1} (𝓤 : URA M) (H : Heap 𝓤) (A : Atoms 𝓤) (W : Given
   typed t u′ p is is′ =
       let are = LL.owed P.the-type P′.the-laws r (w ∷ []) is in
       LL.lawful D² L² 𝓤 H A W .typed (made t) (LL.vals D² L² (made t)) (LL.owes D² L² (made t) (
-        are .0,
+        is,
         (
-          are .1 .0,
-          (
-            subst (Is (ShrSlice (named 0) κ u8) t) (shr-slice-tells (named 0) κ u8 t (u′ ∷ []) is′) is′,
-            (LL.owes D L d′ (LL.owed D L d (mach ∷ []) p .0, (are .1 .1 .1 .1 .0, tt)), tt),
-          ),
+          subst (Is (ShrSlice (named 0) κ u8) t) (shr-slice-tells (named 0) κ u8 t (u′ ∷ []) is′) is′,
+          (LL.owes D L d′ (LL.owed D L d (mach ∷ []) p .0, (are .1 .1 .1 .1 .0, tt)), tt),
         ),
       )) .0
 
   handed : (t : RefT (List ℕ)) → Part (d .line) (r .from) (r .to) t → Handed d r (made t)
-  handed t e = record { answer = refl; chord = refl; bar = e; line = refl; at = refl }
+  handed t e = record { step = refl; bar = e; line = refl; at = refl }
 
   exits : (t : RefT (List ℕ)) → Part (d .line) (r .from) (r .to) t → Is P.the-row r (w ∷ [])
       → ent 𝓤 (⋆ 𝓤 H A (‵ (ShrSlice (named 0) κ u8 .own t (sliceVal (t .ptr) (length (t .now)) ∷ [])) ∷
@@ -200,11 +192,8 @@ module _ {M : Type 1} (𝓤 : URA M) (H : Heap 𝓤) (A : Atoms 𝓤) (W : Given
       owned ! usize (Is usize) (uint-makes 𝓤 H A W w64) (r .next) _ (LL.owed P.the-type P′.the-laws r (w ∷ []) is .1 .1 .1 .1 .0) $
       move ! (1 ∷ 0 ∷ []) $ use2 W (‵ (B κs .own d′ (T′.lowered d′ ∷ []))) (own-put 𝓤 H A W D L 1 vd (r .next) mach) $
       nothing ! $ move ! (1 ∷ 0 ∷ []) $ fjoin ! $ move ! (1 ∷ 0 ∷ []) $ fjoin ! $
-      owned ! K.the-row (Is K.the-row) (LL.makes K.the-type K′.the-plain 𝓤 H A) (r .chord) _
-      (LL.owed P.the-type P′.the-laws r (w ∷ []) is .1 .0) $ fjoin ! $
-      owned ! E.the-row (Is E.the-row) (EL.makes E.the-type E′.the-plain 𝓤 H A) (r .answer) _
-      (LL.owed P.the-type P′.the-laws r (w ∷ []) is .0) $ fjoin ! $
-      by ! (own-shut 𝓤 H A W D² L² (r .answer, (r .chord, (t, (d′, tt)))))
+      owned ! P.the-row (Is P.the-row) (LL.makes P.the-type P′.the-plain 𝓤 H A) r _ is $ fjoin ! $
+      by ! (own-shut 𝓤 H A W D² L² (r, (t, (d′, tt))))
 
   module _ (C : Calls 𝓤 H) (Λ : Loops 𝓤 H) (fm : FmC 𝓤 H (W .laws) C) (known : Triple 𝓤 (C #bars·part) (PartOf 𝓤 H A mem run)) where
     walk : Is (B κs) d (mach ∷ []) → Holds (hasTy (T′.mir (named 0)) mach) × WT mach → Is P.the-row r (w ∷ []) → Fit (r .from) (r .to)
@@ -239,10 +228,8 @@ module _ {M : Type 1} (𝓤 : URA M) (H : Heap 𝓤) (A : Atoms 𝓤) (W : Given
         assigns ! (agg ! (and-then ! (load ! (from ! (stop !)) (look ! 5 refl)) (and-then !
         (load ! (from ! (fld ! refl (stop !))) (look-in ! 11 (sub ! 4 refl (whole !)))) (no-more !)))) (from ! (stop !))
         (init ! 3 refl (tt, (wt .1 .0, (record { fits = LL.owed P.the-type P′.the-laws r (w ∷ []) is .1 .1 .1 .1 .0 .1 }, tt)))) $
-        assigns ! (agg ! (and-then ! (load ! (from ! (fld ! refl (stop !))) (look-in ! 11 (sub ! 0 refl (whole !))))
-        (and-then ! (load ! (from ! (fld ! refl (stop !))) (look-in ! 11 (sub ! 1 refl (whole !))))
-        (and-then ! (load ! (from ! (stop !)) (look ! 9 refl)) (and-then ! (load ! (from ! (stop !)) (look ! 3 refl)) (no-more !))))))
-        (from ! (stop !)) (init ! 15 refl (typed t u′ p is is′)) $
+        assigns ! (agg ! (and-then ! (load ! (from ! (stop !)) (look ! 11 refl)) (and-then ! (load ! (from ! (stop !)) (look ! 9 refl))
+        (and-then ! (load ! (from ! (stop !)) (look ! 3 refl)) (no-more !))))) (from ! (stop !)) (init ! 15 refl (typed t u′ p is is′)) $
         returns ! (look ! 15 refl) $ forget ! 3 refl $ forget ! 5 refl $ forget ! 7 refl $ forget ! 9 refl $ forget ! 11 refl $
         forget ! 13 refl $ forget ! 15 refl $
         move ! (15 ∷ 16 ∷ []) $ free1 ! $ move ! (13 ∷ 14 ∷ []) $ free1 ! $ move ! (11 ∷ 12 ∷ []) $ free1 ! $ move ! (9 ∷ 10 ∷ []) $
