@@ -1,2 +1,2 @@
--- What the proof of `step` uses.
+-- What the proof of `step_at` and those of its callers use.
 pub mod Laws

@@ -1,5 +1,5 @@
--- `line_reader::hand_out` meets its contract: a walk of its MIR, by hand. The reader is taken apart, `bars::part` is called with its line and the
--- step's place, and the next step is made.
+-- `line_reader::hand_out` meets its contract: a walk of its MIR, by hand. The reader is taken apart, `bars::part` is called with its line
+-- and the step's place, and the next step is made.
 -- Assumes nothing.
 use mathlib.Core.Path.{_≡_, refl, ap, subst}
 use Prim.Native.Nat.{ℕ, _≤_, _<_, _^_}

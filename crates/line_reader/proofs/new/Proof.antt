@@ -1,6 +1,6 @@
--- `line_reader::new` meets its contract: a walk of its MIR, by hand. A `LineReader` is made of the slice and the number passed, in the result's
--- local. A `&[u8]` is Copy, so what it owns is had twice: once for the line at exit, and once inside the result, beside the facts of the
--- number.
+-- `line_reader::new` meets its contract: a walk of its MIR, by hand. A `LineReader` is made of the slice and the number passed, in the
+-- result's local. A `&[u8]` is Copy, so what it owns is had twice: once for the line at exit, and once inside the result, beside the facts
+-- of the number.
 -- Assumes nothing.
 use mathlib.Core.Path.{refl}
 use Prim.Native.Nat.{ℕ, _<_, _^_}

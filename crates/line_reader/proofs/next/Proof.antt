@@ -1,5 +1,5 @@
--- `line_reader::next` meets its contract: a walk of its MIR, by hand. The reader goes to `step_of`, with the lent list, and to `hand_out`, with
--- the step. All that the proof knows of the two is that each meets its contract.
+-- `line_reader::next` meets its contract: a walk of its MIR, by hand. The reader goes to `step_of`, with the lent list, and to `hand_out`,
+-- with the step. All that the proof knows of the two is that each meets its contract.
 -- Assumes nothing.
 use mathlib.Core.Path.{_≡_, refl, sym, subst, _∙_}
 use Prim.Native.Nat.{ℕ, _≤_}
@@ -38,11 +38,10 @@ use denote.Triple.Table.{entered, cited}
 use denote.Triple.Walked.{says, Stays, stay-none, gave-slice, walkOf, goes-none, goes-gave-slice, Walks, ends-at, walked, walk-meets}
 use denote.Exit.{yes}
 use denote.Triple.Clauses.{ensured, lasts}
-use Rattle.song.specs.State.{StepGave, Stepped}
+use Rattle.song.specs.State.{Stepped}
 use Rattle.line_reader.specs.State.{Handed, NextStepped}
 use Rattle.song.specs.declared.Step.{Step}
 use Rattle.line_reader.specs.declared.NextStep.{NextStep}
-use Rattle.chord.specs.declared.Chord.{Chord}
 use Rattle.bars.specs.Bars.{placeAt}
 use Rattle.bars.specs.State.{Part}
 use Rattle.line_reader.specs.declared.LineReader.{LineReader}

@@ -1,5 +1,6 @@
--- `line_reader::step_of` meets its contract: a walk of its MIR, by hand. The reader is taken apart, and `step_at` is called with its line, its
--- position and the lent list, which goes there at its own lifetime. All that the proof knows of `step_at` is that it meets its contract.
+-- `line_reader::step_of` meets its contract: a walk of its MIR, by hand. The reader is taken apart, and `step_at` is called with its line,
+-- its position and the lent list, which goes there at its own lifetime. All that the proof knows of `step_at` is that it meets its
+-- contract.
 -- Assumes nothing.
 use mathlib.Core.Path.{_≡_, refl}
 use Prim.Native.Nat.{ℕ, _<_, _^_}
