@@ -1,5 +1,4 @@
-//! The Rust original and the library in one process, on the same texts, in turns: ns per text of both, best and median of the rounds; and song
-//! lines by steps against their bars one by one.
+//! The Rust original and the library in one process, on the same texts, in turns: ns per text of both, best and median of the rounds.
 //! The file of ordinary symbols is the first argument.
 #![allow(warnings)]
 mod bitset;
@@ -28,12 +27,11 @@ struct Record([u8; 51]);
 
 unsafe extern "C" {
     fn nophtris_read(text: *const u8, text_len: usize, errors: *mut u16, errors_len: usize, count: *mut u16, chord: *mut Record) -> u8;
-    fn nophtris_step(line: *const u8, line_len: usize, position: *mut usize, errors: *mut u16, errors_len: usize, count: *mut u16, chord: *mut Record, bar_from: *mut usize, bar_len: *mut usize) -> u8;
     fn nophtris_write(chord: *const Record, buffer: *mut u8, buffer_len: usize, length: *mut u16) -> u8;
 }
 
 /// The library's answer to a text; the record is left where it was where the text is refused.
-fn read(text: &[u8], errors: &mut [u16; 1028], record: &mut Record) -> u8 {
+fn read(text: &str, errors: &mut [u16; 1028], record: &mut Record) -> u8 {
     let mut count = 0;
     // SAFETY: each pointer comes from a slice or a reference with its length, and no two overlap.
     unsafe { nophtris_read(text.as_ptr(), text.len(), errors.as_mut_ptr(), errors.len(), &mut count, record) }
@@ -70,7 +68,7 @@ fn row(name: &str, texts: &[String]) {
     let (mut rust, mut ours) = (Vec::new(), Vec::new());
     for _ in 0..ROUNDS {
         rust.push(time(texts, |_, t| drop(black_box(parser.parse(t)))));
-        ours.push(time(texts, |_, t| drop(black_box(read(t.as_bytes(), &mut errors, &mut record)))));
+        ours.push(time(texts, |_, t| drop(black_box(read(t, &mut errors, &mut record)))));
     }
     let ((rb, rm), (ob, om)) = (best_and_median(&mut rust), best_and_median(&mut ours));
     println!("{name:<34} {rb:>9.0} {rm:>9.0} {ob:>9.0} {om:>9.0} {:>7.2} {:>7.2}", ob / rb, om / rm);
@@ -82,7 +80,7 @@ fn writing(texts: &[String]) {
         .iter()
         .map(|t| {
             let mut record = Record([0; 51]);
-            assert_eq!(read(t.as_bytes(), &mut errors, &mut record), 0, "{t}");
+            assert_eq!(read(t, &mut errors, &mut record), 0, "{t}");
             record
         })
         .collect();
@@ -90,38 +88,6 @@ fn writing(texts: &[String]) {
     let mut ours: Vec<f64> = (0..ROUNDS).map(|_| time(texts, |i, _| drop(black_box(write(&records[i], &mut buffer))))).collect();
     let (best, median) = best_and_median(&mut ours);
     println!("{:<34} {:>9} {:>9} {best:>9.0} {median:>9.0}", "writing the ordinary symbols", "", "");
-}
-
-/// The steps of a line from position 0 to the end; their count.
-fn walk(line: &[u8], errors: &mut [u16; 1028], record: &mut Record) -> usize {
-    let (mut count, mut position, mut from, mut len, mut steps) = (0, 0, 0, 0, 0);
-    loop {
-        steps += 1;
-        // SAFETY: as above.
-        let number = unsafe {
-            nophtris_step(line.as_ptr(), line.len(), &mut position, errors.as_mut_ptr(), errors.len(), &mut count, record, &mut from, &mut len)
-        };
-        if black_box(number) == 255 {
-            return steps;
-        }
-    }
-}
-
-/// A line by steps, against reading each of its bars by itself, which one pass over its bytes has cut; ns per bar, in turns.
-fn song(name: &str, line: String) {
-    let bars = line.split('|').count();
-    let mut errors = [0; 1028];
-    let mut record = Record([0; 51]);
-    assert_eq!(walk(line.as_bytes(), &mut errors, &mut record), bars + 1);
-    let texts = [line];
-    let (mut apart, mut stepped) = (Vec::new(), Vec::new());
-    for _ in 0..ROUNDS {
-        apart.push(time(&texts, |_, t| t.as_bytes().split(|b| *b == b'|').for_each(|bar| drop(black_box(read(bar, &mut errors, &mut record))))));
-        stepped.push(time(&texts, |_, t| drop(black_box(walk(t.as_bytes(), &mut errors, &mut record)))));
-    }
-    let ((ab, am), (sb, sm)) = (best_and_median(&mut apart), best_and_median(&mut stepped));
-    let n = bars as f64;
-    println!("{name:<34} {:>9.1} {:>9.1} {:>9.1} {:>9.1} {:>7.2} {:>7.2}", ab / n, am / n, sb / n, sm / n, sb / ab, sm / am);
 }
 
 /// A piece again and again behind C, up to 256 bytes.
@@ -147,9 +113,4 @@ fn main() {
     row("256 bytes: signs of three bytes", &full("♯"));
     row("256 bytes: spaces", &full(" "));
     writing(&symbols);
-    println!("{:<34} {:>9} {:>9} {:>9} {:>9} {:>7} {:>7}", "ns per bar of a song line", "bars best", "median", "step best", "median", "ratio", "median");
-    let cards = symbols.join("|").repeat(20);
-    song("4,096 bytes: ordinary symbols", cards[..4096].to_string());
-    song("4,096 bytes: only |", "|".repeat(4096));
-    song("4,096 bytes: one bar", "C".repeat(4096));
 }

@@ -1,0 +1,86 @@
+/* Song lines of 4,096 bytes by steps, against one pass over the bytes that writes down where each bar lies, and reading these bars; in turns.
+ * The file of ordinary symbols is the first argument. Prints for each line ns per bar of both and the ratio, each the median of the rounds. */
+#include <stdio.h>
+#include <stdlib.h>
+#include <string.h>
+#include <time.h>
+
+#include "nophtris.h"
+
+#define ROUNDS 101
+#define SHORTEST 1e6 /* ns of one side in a round */
+
+static uint8_t line[NOPHTRIS_LINE];
+static size_t from[NOPHTRIS_LINE + 1], len[NOPHTRIS_LINE + 1];
+static uint16_t errors[NOPHTRIS_ERRORS], count;
+static nophtris_chord chord;
+
+static double now(void) {
+  struct timespec t;
+  clock_gettime(CLOCK_MONOTONIC, &t);
+  return t.tv_sec * 1e9 + t.tv_nsec;
+}
+
+/* The line by steps; the count of its bars. */
+static size_t by_steps(void) {
+  size_t position = 0, bar_from, bar_len, bars = 0;
+  while (nophtris_step(line, sizeof line, &position, errors, NOPHTRIS_ERRORS, &count, &chord, &bar_from, &bar_len) != NOPHTRIS_END) bars++;
+  return bars;
+}
+
+/* One pass over the line, and each of its bars read; their count. */
+static size_t by_bars(void) {
+  size_t bars = 0, to;
+  for (size_t at = 0; at <= sizeof line; at = to + 1) {
+    for (to = at; to < sizeof line && line[to] != '|';) to++;
+    from[bars] = at;
+    len[bars++] = to - at;
+  }
+  for (size_t k = 0; k < bars; k++) nophtris_read(line + from[k], len[k], errors, NOPHTRIS_ERRORS, &count, &chord);
+  return bars;
+}
+
+/* ns per bar of so many walks over the line. */
+static double timed(size_t walk(void), size_t times) {
+  size_t bars = 0;
+  double start = now();
+  for (size_t i = 0; i < times; i++) bars += walk();
+  return (now() - start) / bars;
+}
+
+static int smaller(const void *a, const void *b) {
+  double x = *(const double *)a, y = *(const double *)b;
+  return (x > y) - (x < y);
+}
+
+static double median(double *rounds) {
+  qsort(rounds, ROUNDS, sizeof *rounds, smaller);
+  return rounds[ROUNDS / 2];
+}
+
+/* A piece again and again, up to 4,096 bytes. */
+static void row(const char *name, const char *piece) {
+  double steps[ROUNDS], bars[ROUNDS], ratio[ROUNDS];
+  for (size_t i = 0; i < sizeof line; i++) line[i] = piece[i % strlen(piece)];
+  size_t n = by_bars();
+  if (by_steps() != n) exit(1);
+  size_t times = SHORTEST / (timed(by_bars, 1) * n) + 1;
+  for (size_t r = 0; r < ROUNDS; r++) {
+    bars[r] = timed(by_bars, times);
+    steps[r] = timed(by_steps, times);
+    ratio[r] = steps[r] / bars[r];
+  }
+  printf("%-18s %9.1f %9.1f %9.3f\n", name, median(bars), median(steps), median(ratio));
+}
+
+int main(int argc, char **argv) {
+  static char symbols[NOPHTRIS_LINE + 1];
+  FILE *file = argc > 1 ? fopen(argv[1], "r") : NULL;
+  if (file == NULL || fread(symbols, 1, NOPHTRIS_LINE, file) == 0) return 1;
+  for (char *c = symbols; *c; c++)
+    if (*c == '\n') *c = '|';
+  row("ordinary symbols", symbols);
+  row("only |", "|");
+  row("one bar", "C");
+  return 0;
+}
