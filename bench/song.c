@@ -1,5 +1,6 @@
-/* Song lines of 4,096 bytes by steps, against one pass over the bytes that writes down where each bar lies, and reading these bars; in turns.
- * The file of ordinary symbols is the first argument. Prints for each line ns per bar of both and the ratio, each the median of the rounds. */
+/* Song lines of 4,096 bytes by steps, against two callers that have no step, in turns: one writes down in one pass where each bar lies, and
+ * reads these bars then; the other reads each bar as soon as it has found its end. The file of ordinary symbols is the first argument.
+ * Prints for each line ns per bar of the three, and the ratio of the steps to each of the two; each is the median of the rounds. */
 #include <stdio.h>
 #include <stdlib.h>
 #include <string.h>
@@ -40,6 +41,17 @@ static size_t by_bars(void) {
   return bars;
 }
 
+/* Each bar read as soon as its end is found, and its place not kept; their count. */
+static size_t by_turns(void) {
+  size_t bars = 0, to;
+  for (size_t at = 0; at <= sizeof line; at = to + 1) {
+    for (to = at; to < sizeof line && line[to] != '|';) to++;
+    nophtris_read(line + at, to - at, errors, NOPHTRIS_ERRORS, &count, &chord);
+    bars++;
+  }
+  return bars;
+}
+
 /* ns per bar of so many walks over the line. */
 static double timed(size_t walk(void), size_t times) {
   size_t bars = 0;
@@ -60,7 +72,7 @@ static double median(double *rounds) {
 
 /* A piece again and again, up to 4,096 bytes. */
 static void row(const char *name, const char *piece) {
-  double steps[ROUNDS], bars[ROUNDS], ratio[ROUNDS];
+  double steps[ROUNDS], bars[ROUNDS], turns[ROUNDS], to_bars[ROUNDS], to_turns[ROUNDS];
   for (size_t i = 0; i < sizeof line; i++) line[i] = piece[i % strlen(piece)];
   size_t n = by_bars();
   if (by_steps() != n) exit(1);
@@ -68,9 +80,11 @@ static void row(const char *name, const char *piece) {
   for (size_t r = 0; r < ROUNDS; r++) {
     bars[r] = timed(by_bars, times);
     steps[r] = timed(by_steps, times);
-    ratio[r] = steps[r] / bars[r];
+    turns[r] = timed(by_turns, times);
+    to_bars[r] = steps[r] / bars[r];
+    to_turns[r] = steps[r] / turns[r];
   }
-  printf("%-18s %9.1f %9.1f %9.3f\n", name, median(bars), median(steps), median(ratio));
+  printf("%-18s %9.1f %9.1f %9.1f %9.3f %9.3f\n", name, median(bars), median(turns), median(steps), median(to_bars), median(to_turns));
 }
 
 int main(int argc, char **argv) {
