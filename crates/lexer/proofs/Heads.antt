@@ -12,14 +12,15 @@ use lib.ListN.{length, getD, drop, length-drop}
 use lib.Seq.{drop-cons}
 use borrow.Author.Tests.{le-leb, lt-leb, lt-ltb, le-ltb, ne-eqb, eqb-false}
 use Rattle.intervals.specs.Interval.{elem}
-use Rattle.utf8.specs.Utf8.{charAt, charOf, begins}
+use Rattle.utf8.specs.Utf8.{charAt, charOf}
 use Rattle.utf8.specs.declared.Found.the-variants as utf8
 use Rattle.utf8.specs.declared.Found.{Found}
-use Rattle.lexer.specs.Lexer.{isLetter, isDigit, digitOf, twoDigits, oneDigit, digitIn, numberHead, numberBy, wordHead, signHead, signOf, headBy, headOf, sizeOf}
-use Rattle.lexer.specs.Words.{Word, match, words, better, longestOf, longest}
+use Rattle.lexer.specs.Lexer.{isDigit, digitOf, twoDigits, oneDigit, digitIn, numberHead, numberBy, wordHead, signHead, signOf, headBy, headOf, sizeOf}
+use Rattle.lexer.specs.Words.{isLetter, runEnd, wordByEnds, words}
 use Rattle.lexer.specs.declared.Head.the-variants as head
 use Rattle.lexer.specs.declared.Head.{Head}
 use Rattle.lexer.specs.declared.Match.{Match}
+use Rattle.lexer.proofs.Runs.{run-within, run-letter, run-other, ends-within}
 use Rattle.utf8.proofs.Laws.{Row, one, two, three, four, row, Encoded, charOf-sound, one-found, found-size, found-within}
 
 -- no character from 58 on is a digit
@@ -55,6 +56,38 @@ pub digit-byte : (s : List ℕ) (i : ℕ) → i < length s → digitOf (getD s i
 digit-byte s i l =
     digit-first (getD s i 0 ∷ drop (suc i) s) (omega arith) ∙ ap (λ (t : List ℕ). digitIn (charOf t)) (sym (drop-cons s i 0 l))
 
+-- no character from 123 on is a letter
+letter-high : (c : ℕ) → 123 ≤ c → isLetter c ≡ false
+unfolding isLetter
+letter-high c h = rw (le-leb 65 c (omega arith), lt-leb c 90 (omega arith), le-leb 97 c (omega arith), lt-leb c 122 h)
+
+letter-low : (c : ℕ) → isLetter c ≡ true → c < 123
+letter-low c e = elim (decLe 123 c) [ yes h ↦ absurd (subst T (sym e ∙ letter-high c h) tt) | no h ↦ omega arith ]
+
+-- a letter begins a run, and what stands there is the run's word
+pub letter-head : (s : List ℕ) → 0 < runEnd s → headOf s ≡ wordHead (wordByEnds s)
+unfolding headOf runEnd
+letter-head [] h = absurd (omega arith)
+letter-head (b ∷ s) h =
+    let e = run-letter b s h in
+    rw (one-found (b ∷ s) (omega arith) (omega (arith, letter-low b e)), e)
+
+-- where no run begins, the character is no letter
+pub no-letter : (s : List ℕ) (c n : ℕ) → charOf s ≡ utf8.Char c n → 0 < length s → runEnd s ≡ 0 → isLetter c ≡ false
+no-letter [] c n e l z = absurd (omega arith)
+no-letter (b ∷ s) c n e l z = elim (decLe 128 b) [
+  | yes h ↦ letter-high c (omega (arith, found-high (b ∷ s) c n e h))
+  | no h ↦ let f = one-found (b ∷ s) l (omega arith) in let g : b ≡ c = cc in rw g at (run-other b s z)
+]
+
+-- the word of a run lies within it
+pub word-within : (s : List ℕ) → 0 < runEnd s → sizeOf (wordHead (wordByEnds s)) ≤ runEnd s
+word-within s h = go (eqb (wordByEnds s .len) 0)
+  where
+    go : (x : Bool) → sizeOf (cond x (head.Word 21 1) (head.Word (wordByEnds s .kind) (wordByEnds s .len))) ≤ runEnd s
+    go true = h
+    go false = ends-within words (runEnd s) s
+
 -- a digit is below 10, and what is none is 10
 module _ (c : ℕ) {d : ℕ} (e : d ≡ digitOf c) where
   pub is-digit : d < 10 → isDigit c ≡ true
@@ -86,28 +119,6 @@ second-byte d n s = go (charOf s) refl
     go (utf8.Char c m) e = by c m (charOf-sound s c m e) (row c)
     go utf8.Bad e = lone-head d n 1 0
     go utf8.End e = lone-head d n 1 0
-
-begins-length : (p s : List ℕ) → begins p s ≡ true → length p ≤ length s
-begins-length [] s e = omega arith
-begins-length (x ∷ p) [] e = absurd (subst T (sym e) tt)
-begins-length (x ∷ p) (y ∷ s) e = go (eqb x y) e (begins-length p s)
-  where
-    go : (b : Bool) → (b && begins p s) ≡ true → (begins p s ≡ true → length p ≤ length s) → suc (length p) ≤ suc (length s)
-    go true e f = let h = f e in omega arith
-    go false e f = absurd (subst T (sym e) tt)
-
-better-within : (s : List ℕ) (w : Word) (m : Match) → m .len ≤ length s → better s w m .len ≤ length s
-better-within s w m h = go (ltb (m .len) (length (w .text))) (begins (w .text) s) refl
-  where
-    go : (a b : Bool) → begins (w .text) s ≡ b → cond (a && b) (match (length (w .text)) (w .kind)) m .len ≤ length s
-    go true true e = begins-length (w .text) s e
-    go true false e = h
-    go false b e = h
-
-longest-within : (ws : List Word) (s : List ℕ) (m : Match) → m .len ≤ length s → longestOf ws s m .len ≤ length s
-unfolding longestOf
-longest-within [] s m h = h
-longest-within (w ∷ ws) s m h = longest-within ws s (better s w m) (better-within s w m h)
 
 -- the length of a head's token, 0 for none
 abbrev pub lengthOf : Head → ℕ
@@ -162,8 +173,8 @@ unfolding headOf
 head-sized s l = go (charOf s) refl
   where
     by : (a b c : Bool) (k n : ℕ) → 1 ≤ n → n ≤ length s
-        → Sized (cond a (wordHead (longest s)) (cond b (numberBy (digitOf k) n (charOf (drop n s))) (cond c head.Space (signHead k n)))) s
-    by true b c k n x y = word-sized s (longest s) l (longest-within words s (match 0 21) (omega arith))
+        → Sized (cond a (wordHead (wordByEnds s)) (cond b (numberBy (digitOf k) n (charOf (drop n s))) (cond c head.Space (signHead k n)))) s
+    by true b c k n x y = word-sized s (wordByEnds s) l (omega (arith, ends-within words (runEnd s) s, run-within s))
     by false true c k n x y = number-sized s (digitOf k) n x y
     by false false true k n x y = record { some = omega arith; within = l; short = omega arith }
     by false false false k n x y = sign-sized s k n x y

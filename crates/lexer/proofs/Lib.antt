@@ -1,5 +1,7 @@
 mod Words
+pub mod Runs
 mod Chains
+pub mod Longest
 pub mod Heads
 mod Shifts
 mod Steps

@@ -1,4 +1,5 @@
--- One step of the walk keeps the allTokens: what stands in the arrays and what is still to come.
+-- One step of the scan keeps all tokens: those that stand in the arrays and those still to come. So does a letter run that is cut (`Cutting`),
+-- and so do two parts of the scan, one after the other (`went-on`).
 -- Assumes nothing.
 use mathlib.Core.Bool.{true, false}
 use mathlib.Core.List.{List, [], _∷_, _++_, append-assoc}
@@ -11,13 +12,15 @@ use lib.Dec.{T}
 use lib.ListN.{length, take, drop, set, length-append, drop-of-length-le, length-drop}
 use lib.Seq.{slice, slice-empty, drop-cons, drop-drop, take-take, take-at, drop-at, length-take-le, take-suc-set, drop-set-lt}
 use Rattle.token.specs.Token.{Token, token}
-use Rattle.lexer.specs.Lexer.{headOf, emit, illegal, lex, sizeOf}
-use Rattle.lexer.specs.State.{planOf, allTokens, Few, Inserted, Emitted, Written, scan}
+use Rattle.lexer.specs.Lexer.{headOf, emit, illegal, lex, sizeOf, wordHead}
+use Rattle.lexer.specs.State.{planOf, allTokens, Few, Inserted, Emitted, Went, Written, scan}
+use Rattle.lexer.specs.Words.{runEnd, wordByEnds}
 use Rattle.lexer.specs.declared.Head.the-variants as head
 use Rattle.lexer.specs.declared.Head.{Head}
 use Rattle.lexer.specs.declared.Plan.{Plan}
 use Rattle.lexer.specs.declared.Scan.{Scan}
-use Rattle.lexer.proofs.Heads.{Sized, head-sized}
+use Rattle.lexer.proofs.Heads.{Sized, head-sized, letter-head, word-within}
+use Rattle.lexer.proofs.Runs.{run-drop, run-within}
 use Rattle.lexer.proofs.Shifts.{in-parts}
 use Rattle.token.proofs.Parts.{later}
 
@@ -55,6 +58,14 @@ module _ {t : Token} {p n : ℕ} {R R′ : List Token} (le : p ≤ n) (b : n + 1
 
   pub back : slice (p + 1) (n + 1) R′ ≡ slice p n R
   back = ap (drop (p + 1)) list-two ∙ drop-at (take p R ++ (t ∷ [])) (slice p n R) (p + 1) front-length
+
+-- the place behind a head
+next-place : (h : Head) (s : Scan) → planOf h s .next .at ≡ s .at + sizeOf h
+next-place head.Space s = refl
+next-place (head.Sign k n) s = refl
+next-place (head.Word k n) s = refl
+next-place (head.Number k t n) s = refl
+next-place (head.Digit n) s = refl
 
 module _ (text : List ℕ) (s : Scan) (R R′ : List Token) (F : Few text s) (l : s .at < length text) where
   before-step : (h : Head) → h ≡ headOf (drop (s .at) text) → allTokens text s R ≡ take (s .held) R ++ emit h (slice (s .held) (s .count) R) (s .at) (λ k g. lex k g (s .at + 1) (drop (s .at + 1) text))
@@ -100,14 +111,7 @@ module _ (text : List ℕ) (s : Scan) (R R′ : List Token) (F : Few text s) (l 
   step-few (head.Number k t n) o w = record { among = omega (arith, F .among); some = omega (arith, F .some); within = w }
   step-few (head.Digit n) o w = record { among = omega (arith, F .among); some = omega (arith, F .some); within = w }
 
-  -- the place moves on, and what lies beyond the tokens is untouched
-  pub step-far : (h : Head) → 1 ≤ sizeOf h → s .at < planOf h s .next .at
-  step-far head.Space o = omega arith
-  step-far (head.Sign k n) o = omega arith
-  step-far (head.Word k n) o = omega arith
-  step-far (head.Number k t n) o = omega arith
-  step-far (head.Digit n) o = omega arith
-
+  -- what lies beyond the tokens is untouched
   pub step-rest : (h : Head) → Emitted h s (planOf h s .next) R R′ → drop (planOf h s .next .count) R′ ≡ drop (planOf h s .next .count) R
   step-rest head.Space E = ap (drop (s .count)) (E .none refl)
   step-rest (head.Sign k n) E = E .one refl .rest
@@ -122,44 +126,73 @@ module _ (text : List ℕ) (s : Scan) (R R′ : List Token) (F : Few text s) (l 
   step-count (head.Number k t n) = omega arith
   step-count (head.Digit n) = omega arith
 
--- what the loop keeps true of the tokens R, where they were R₀ at first
-pub record Walked (text : List ℕ) (s : Scan) (R₀ R : List Token) : Type 0 where
-  pub few : Few text s
-  pub list : allTokens text s R ≡ lex 0 [] 0 text
-  pub rest : drop (s .count) R ≡ drop (s .count) R₀
+-- the scan stays where it is, or goes on in two parts
+pub went-start : {text : List ℕ} {s : Scan} (R : List Token) → Few text s → Went text s s R R
+went-start R F = record { few = F; grown = omega arith; list = refl; rest = refl }
 
-pub walk-start : (text : List ℕ) (R : List Token) → Walked text (scan 0 0 0) R R
-walk-start text R = record { few = record { among = omega arith; some = omega arith; within = omega arith }; list = refl; rest = refl }
+pub went-on : {text : List ℕ} {s t u : Scan} {R S U : List Token} → Went text s t R S → Went text t u S U → Went text s u R U
+went-on {text} {s} {t} {u} {R} {S} {U} F W =
+    record {
+      few = W .few;
+      grown = omega (arith, F .grown, W .grown);
+      list = W .list ∙ F .list;
+      rest = W .rest ∙ later S R (t .count) (u .count) (W .grown) (F .rest);
+    }
 
-module _ {text : List ℕ} {s : Scan} {R₀ R : List Token} {h : Head} (W : Walked text s R₀ R) (l : s .at < length text) (e : h ≡ headOf (drop (s .at) text)) where
+module _ {text : List ℕ} {s : Scan} {h : Head} (F : Few text s) (l : s .at < length text) (e : h ≡ headOf (drop (s .at) text)) where
   -- the head lies within the text
-  pub walk-head : (1 ≤ sizeOf h) × (s .at + sizeOf h ≤ length text)
-  walk-head =
+  pub step-head : (1 ≤ sizeOf h) × (s .at + sizeOf h ≤ length text)
+  step-head =
       let n : length (drop (s .at) text) ≡ length text - s .at = length-drop (s .at) text in
       let z = subst (λ (g : Head). Sized g (drop (s .at) text)) (sym e) (head-sized (drop (s .at) text) (omega arith)) in
       (z .some, omega (arith, z .within))
 
-  pub walk-step : {s′ : Scan} {R′ : List Token} → s .count + 1 ≤ length R → Emitted h s s′ R R′ → Walked text s′ R₀ R′
-  walk-step {s′} {R′} b E =
+  -- one head
+  pub step-went : {s′ : Scan} {R R′ : List Token} → s .count + 1 ≤ length R → Emitted h s s′ R R′ → Went text s s′ R R′
+  step-went {s′} {R} {R′} b E =
       let next = planOf h s .next in
       let N : Emitted h s next R R′ = subst (λ (q : Scan). Emitted h s q R R′) (E .state) E in
-      let r : drop (next .count) R′ ≡ drop (next .count) R₀ =
-      step-rest text s R R′ (W .few) l h N ∙ later R R₀ (s .count) (next .count) (step-count text s R R′ (W .few) l h) (W .rest) in
-      let w : Walked text next R₀ R′ =
+      let w : Went text s next R R′ =
       record {
-        few = step-few text s R R′ (W .few) l h (walk-head .0) (walk-head .1);
-        list = step-whole text s R R′ (W .few) l h e (walk-head .0) b N ∙ W .list;
-        rest = r;
+        few = step-few text s R R′ F l h (step-head .0) (step-head .1);
+        grown = step-count text s R R′ F l h;
+        list = step-whole text s R R′ F l h e (step-head .0) b N;
+        rest = step-rest text s R R′ F l h N;
       } in
-      subst (λ (q : Scan). Walked text q R₀ R′) (sym (E .state)) w
+      subst (λ (q : Scan). Went text s q R R′) (sym (E .state)) w
 
-  pub walk-far : {s′ : Scan} {R′ : List Token} → Emitted h s s′ R R′ → s .at < s′ .at
-  walk-far {s′} {R′} E = subst (λ (q : Scan). s .at < q .at) (sym (E .state)) (step-far text s R R′ (W .few) l h (walk-head .0))
+  pub step-place : {s′ : Scan} {R R′ : List Token} → Emitted h s s′ R R′ → s′ .at ≡ s .at + sizeOf h
+  step-place E = ap (λ (q : Scan). q .at) (E .state) ∙ next-place h s
 
--- the walk is done: the tokens in the arrays are all
-pub walk-end : (text : List ℕ) (s : Scan) (R₀ R : List Token) → Walked text s R₀ R → length text ≤ s .at → s .count ≤ length R → Written (lex 0 [] 0 text) (s .count) R₀ R
+-- A letter run that ends at `end` is being cut: the scan went on, and the rest of the run stands before it.
+pub record Cutting (text : List ℕ) (end : ℕ) (s₀ s : Scan) (R₀ R : List Token) : Type 0 where
+  pub went : Went text s₀ s R₀ R
+  pub run : end ≡ s .at + runEnd (drop (s .at) text)
+
+module _ {text : List ℕ} {end : ℕ} {s₀ s : Scan} {R₀ R : List Token} (K : Cutting text end s₀ s R₀ R) (l : s .at < end) where
+  letters : 0 < runEnd (drop (s .at) text)
+  letters = omega (arith, K .run)
+
+  pub cut-inside : s .at < length text
+  cut-inside = omega (arith, letters, run-within (drop (s .at) text), length-drop (s .at) text)
+
+-- its next word
+module _ {text : List ℕ} {end : ℕ} {s₀ s : Scan} {R₀ R : List Token} {h : Head} (K : Cutting text end s₀ s R₀ R) (l : s .at < end) (e : h ≡ wordHead (wordByEnds (drop (s .at) text))) where
+  pub cut-head : h ≡ headOf (drop (s .at) text)
+  cut-head = e ∙ sym (letter-head (drop (s .at) text) (letters K l))
+
+  pub cut-step : {s′ : Scan} {R′ : List Token} → s .count + 1 ≤ length R → Emitted h s s′ R R′ → Cutting text end s₀ s′ R₀ R′
+  cut-step {s′} {R′} b E =
+      let t = drop (s .at) text in
+      let n : sizeOf h ≤ runEnd t = subst (λ (g : Head). sizeOf g ≤ runEnd t) (sym e) (word-within t (letters K l)) in
+      let z = step-place (K .went .few) (cut-inside K l) cut-head E in
+      let q : runEnd (drop (sizeOf h) t) ≡ runEnd (drop (s′ .at) text) = ap runEnd (drop-drop (sizeOf h) (s .at) text ∙ ap (λ k. drop k text) (sym z)) in
+      record { went = went-on (K .went) (step-went (K .went .few) (cut-inside K l) cut-head b E); run = omega (arith, K .run, run-drop (sizeOf h) t n) }
+
+-- the scan is done: the tokens in the arrays are all
+pub went-end : (text : List ℕ) (s : Scan) (R₀ R : List Token) → Went text (scan 0 0 0) s R₀ R → length text ≤ s .at → s .count ≤ length R → Written (lex 0 [] 0 text) (s .count) R₀ R
 unfolding lex
-walk-end text s R₀ R W l b =
+went-end text s R₀ R W l b =
     let e : take (s .count) R ≡ lex 0 [] 0 text =
     in-parts R (s .held) (s .count) (W .few .among)
     ∙ ap (λ t. take (s .held) R ++ lex 0 (slice (s .held) (s .count) R) (s .at) t) (sym (drop-of-length-le text l))

@@ -10,16 +10,13 @@ use Rattle.token.specs.declared.TokenType.the-variants.{Sharp, Flat, Aug, Dim, 
 use Rattle.utf8.specs.Utf8.{charOf}
 use Rattle.utf8.specs.declared.Found.the-variants as utf8
 use Rattle.utf8.specs.declared.Found.{Found}
-use Rattle.lexer.specs.Words.{longest}
+use Rattle.lexer.specs.Words.{isLetter, wordByEnds}
 use Rattle.lexer.specs.declared.Head.the-variants.{Space, Sign, Word, Number, Digit}
 use Rattle.lexer.specs.declared.Head.{Head}
 use Rattle.lexer.specs.declared.Match.{Match}
 
 abbrev pub illegal : ℕ
 illegal = typeNumber Illegal
-
-unfoldable pub isLetter : ℕ → Bool
-isLetter c = leb 65 c && leb c 90 || leb 97 c && leb c 122
 
 -- the digit that a character is, 0 to 9; 10 for a character that is no digit
 abbrev pub digitOf : ℕ → ℕ
@@ -87,7 +84,7 @@ numberBy d n f = numberHead d n (digitIn f) (bytesIn f)
 -- what a text begins with, by its first character. (In a well-formed text there is always one.)
 abbrev pub headBy : Found → List ℕ → Head
 headBy (utf8.Char c n) s =
-    cond (isLetter c) (wordHead (longest s))
+    cond (isLetter c) (wordHead (wordByEnds s))
     (cond (isDigit c) (numberBy (digitOf c) n (charOf (drop n s)))
     (cond (eqb c 0x20) Space
     (signHead c n)))

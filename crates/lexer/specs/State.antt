@@ -1,15 +1,15 @@
 -- Bookkeeping of contracts between our own functions; no promise of an entry point rests on it.
 -- What the lexer's code keeps while it scans: the lent tables, the place it has come to, and what one step adds.
-use mathlib.Core.Bool.{true, false, cond}
+use mathlib.Core.Bool.{true, false, _&&_, cond}
 use mathlib.Core.List.{List, [], _∷_, _++_, map, zipWith}
 use mathlib.Core.Path.{_≡_}
-use Prim.Native.Nat.{ℕ, suc, _+_, _≤_}
-use lib.Dec.{eqb}
+use Prim.Native.Nat.{ℕ, zero, suc, _+_, _-_, _≤_, _<_, min, max}
+use lib.Dec.{eqb, ltb}
 use lib.ListN.{length, take, drop, getD}
 use lib.Seq.{slice}
-use Rattle.token.specs.Token.{Token, token, Ranged}
+use Rattle.token.specs.Token.{Token, token, Ranged, Room}
 use Rattle.lexer.specs.Lexer.{illegal, lex, signPos, tokensOf}
-use Rattle.lexer.specs.Words.{Word, word, words}
+use Rattle.lexer.specs.Words.{Word, runEnd, word, words}
 use Rattle.lexer.specs.declared.Head.the-variants as head
 use Rattle.lexer.specs.declared.Head.{Head}
 use Rattle.lexer.specs.declared.Plan.{Plan}
@@ -19,15 +19,36 @@ use Rattle.lexer.specs.declared.Scan.{Scan}
 abbrev pub padded : Word → List ℕ
 padded w = w .text ++ drop (length (w .text)) (48 ∷ 49 ∷ 50 ∷ 51 ∷ 52 ∷ 53 ∷ 54 ∷ 55 ∷ 56 ∷ 57 ∷ [])
 
--- the place in a list of the first word that begins with b; the list's length where there is none
-unfoldable pub firstPlace : ℕ → List Word → ℕ
-firstPlace b [] = 0
-firstPlace b (w ∷ ws) = cond (eqb (getD (w .text) 0 0) b) 0 (suc (firstPlace b ws))
+-- how many letters the longest word of a list has
+abbrev pub mostLetters : List Word → ℕ
+mostLetters [] = 0
+mostLetters (w ∷ ws) = max (length (w .text)) (mostLetters ws)
 
--- for each word of a list that begins at place i, the place of the next one with the same first letter
+abbrev pub longestWord : ℕ
+longestWord = mostLetters words
+
+-- the last end that is tried from a place of a text: that of the letter run, or the one that the longest word allows
+abbrev pub lastEnd : List ℕ → ℕ → ℕ
+lastEnd text at = min (at + runEnd (drop at text)) (at + longestWord)
+
+-- the place in a list of the first word of n letters that begins with b; the list's length where there is none
+unfoldable pub placeOf : ℕ → ℕ → List Word → ℕ
+placeOf b n [] = 0
+placeOf b n (w ∷ ws) = cond (eqb (getD (w .text) 0 0) b && eqb (length (w .text)) n) 0 (suc (placeOf b n ws))
+
+-- a place, or another where no word has it
+abbrev pub orPlace : ℕ → ℕ → ℕ
+orPlace i j = cond (ltb i (length words)) i j
+
+-- the place of the longest word of at most n letters that begins with b, the first of such
+unfoldable pub placeDown : ℕ → ℕ → ℕ
+placeDown b zero = length words
+placeDown b (suc n) = orPlace (placeOf b (suc n) words) (placeDown b n)
+
+-- for each word of a list that begins at place i, the place of the next one to try: as long and with the same first letter, or shorter
 unfoldable pub nextsFrom : ℕ → List Word → List ℕ
 nextsFrom i [] = []
-nextsFrom i (w ∷ ws) = (i + 1 + firstPlace (getD (w .text) 0 0) ws) ∷ nextsFrom (i + 1) ws
+nextsFrom i (w ∷ ws) = orPlace (i + 1 + placeOf (getD (w .text) 0 0) (length (w .text)) ws) (placeDown (getD (w .text) 0 0) (length (w .text) - 1)) ∷ nextsFrom (i + 1) ws
 
 abbrev pub nextPlaces : List ℕ
 nextPlaces = nextsFrom 0 words
@@ -43,6 +64,13 @@ pub record Tables (ws is : List (List ℕ)) : Type 0 where
 
 abbrev pub wordAt : ℕ → Word
 wordAt i = getD words i (word [] 0)
+
+-- word i, of n letters, begins with the letter that stands at a place of the text
+pub record Candidate (text : List ℕ) (at i n : ℕ) : Type 0 where
+  pub listed : i < 55
+  pub size : n ≡ length (wordAt i .text)
+  pub place : at < length text
+  pub letter : getD (wordAt i .text) 0 0 ≡ getD text at 0
 
 abbrev pub scan : ℕ → ℕ → ℕ → Scan
 scan a h n = record { at = a; held = h; count = n }
@@ -79,6 +107,19 @@ pub record Emitted (h : Head) (s s′ : Scan) (R R′ : List Token) : Type 0 whe
   pub none : planOf h s .adds ≡ false → R′ ≡ R
   pub one : planOf h s .adds ≡ true
       → Inserted (token (planOf h s .kind) (planOf h s .pos) (planOf h s .len)) (planOf h s .place) (s .count) R R′
+
+-- a place from which the text can be scanned: a text of at most 256 bytes, and room for the tokens to come
+pub record Scannable (text : List ℕ) (s : Scan) (kinds poss lens : List ℕ) : Type 0 where
+  pub short : length text ≤ 256
+  pub few : Few text s
+  pub room : Room (length text) kinds poss lens
+
+-- the scan went on: the tokens that stand there and those to come are the same, and what lies beyond them is untouched
+pub record Went (text : List ℕ) (s s′ : Scan) (R R′ : List Token) : Type 0 where
+  pub few : Few text s′
+  pub grown : s .count ≤ s′ .count
+  pub list : allTokens text s′ R′ ≡ allTokens text s R
+  pub rest : drop (s′ .count) R′ ≡ drop (s′ .count) R
 
 -- the first n tokens are ts, and what lies beyond them is untouched
 pub record Written (ts : List Token) (n : ℕ) (R R′ : List Token) : Type 0 where

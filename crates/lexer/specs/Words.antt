@@ -1,9 +1,9 @@
--- The word list of `from_string`, and the longest of its words that a text begins with.
-use mathlib.Core.Bool.{_&&_, cond}
+-- The word list of `from_string`, and the word that a letter run begins with.
+use mathlib.Core.Bool.{Bool, _&&_, _||_, cond}
 use mathlib.Core.List.{List, [], _∷_, _++_}
-use Prim.Native.Nat.{ℕ}
+use Prim.Native.Nat.{ℕ, zero, suc}
 use Prim.Native.String.{String}
-use lib.Dec.{ltb}
+use lib.Dec.{eqb, leb}
 use lib.ListN.{length}
 use Rattle.note.specs.declared.NoteLiteral.the-variants.{C, D, E, F, G, A, B}
 use Rattle.token.specs.Token.{typeNumber}
@@ -48,19 +48,37 @@ words =
     ++ standFor (Note F) ("F" ∷ [])
     ++ standFor (Note G) ("G" ∷ [])
 
--- how long the longest word is so far, 0 for none, and its type's number
+-- a word that was found: its length and its type's number
 abbrev pub match : ℕ → ℕ → Match
 match n k = record { len = n; kind = k }
 
--- w in place of m, where the text begins with w and w is longer
-abbrev pub better : List ℕ → Word → Match → Match
-better s w m = cond (ltb (m .len) (length (w .text)) && begins (w .text) s) (match (length (w .text)) (w .kind)) m
+-- none was found
+abbrev pub noMatch : Match
+noMatch = match 0 (typeNumber Illegal)
 
-unfoldable pub longestOf : List Word → List ℕ → Match → Match
-longestOf [] s m = m
-longestOf (w ∷ ws) s m = longestOf ws s (better s w m)
+-- Letters are ASCII, so that each is one byte.
+unfoldable pub isLetter : ℕ → Bool
+isLetter c = leb 65 c && leb c 90 || leb 97 c && leb c 122
 
--- "A letter run is cut by longest word from the left." A word has letters only, so that the longest word of the run is the longest that
--- the rest of the text begins with.
-abbrev pub longest : List ℕ → Match
-longest s = longestOf words s (match 0 (typeNumber Illegal))
+-- where the letter run ends that a text begins with
+unfoldable pub runEnd : List ℕ → ℕ
+runEnd [] = 0
+runEnd (b ∷ s) = cond (isLetter b) (suc (runEnd s)) 0
+
+-- the word that a text has up to an end: the first of a list that has so many letters and that the text begins with
+unfoldable pub wordTo : List Word → ℕ → List ℕ → Match
+wordTo [] end s = noMatch
+wordTo (w ∷ ws) end s = cond (eqb (length (w .text)) end && begins (w .text) s) (match end (w .kind)) (wordTo ws end s)
+
+-- m, or n where m is none
+abbrev pub orElse : Match → Match → Match
+orElse m n = cond (eqb (m .len) 0) n m
+
+-- the word found by trying one end after the other, from this one down
+unfoldable pub byEnds : List Word → ℕ → List ℕ → Match
+byEnds ws zero s = noMatch
+byEnds ws (suc end) s = orElse (wordTo ws (suc end) s) (byEnds ws end s)
+
+-- "A letter run is cut by longest word from the left": every end of the run is tried, the longest first.
+abbrev pub wordByEnds : List ℕ → Match
+wordByEnds s = byEnds words (runEnd s) s

@@ -1,14 +1,15 @@
 // From a text to its tokens: the word list, what stands at a place, and the walk over the text.
 ghost use mathlib.Core.List.{[], map, zipWith};
+ghost use mathlib.Core.Bool.{false};
 ghost use mathlib.Core.Path.{_≡_};
-ghost use Prim.Native.Nat.{_+_, _<_, _≤_};
+ghost use Prim.Native.Nat.{_+_, _<_, _≤_, min};
 ghost use lib.ListN.{length, getD, drop};
 ghost use Rattle.intervals.specs.Interval.{elem};
 ghost use Rattle.token.specs.Token.{token as tokenOf, rows, Room, Untouched};
 ghost use Rattle.utf8.specs.Utf8.{begins, charAt};
-ghost use Rattle.lexer.specs.Words.{words as wordList, better as betterOf, longest as longestWord};
-ghost use Rattle.lexer.specs.Lexer.{isLetter, digitOf, signOf, signHead, wordHead, twoDigits, oneDigit, digitIn, numberHead, headBy, headOf, sizeOf, lex};
-ghost use Rattle.lexer.specs.State.{Tables, firstPlace, nextPlaces, info as infoOf, padded, wordAt, scan, plan, planOf, Inserted, Emitted, Written, Scanned};
+ghost use Rattle.lexer.specs.Words.{words as wordList, isLetter, runEnd, wordByEnds};
+ghost use Rattle.lexer.specs.Lexer.{digitOf, signOf, signHead, wordHead, twoDigits, oneDigit, digitIn, numberHead, headBy, headOf, sizeOf, lex};
+ghost use Rattle.lexer.specs.State.{Tables, Candidate, lastEnd, longestWord, placeDown, nextPlaces, info as infoOf, padded, wordAt, scan, plan, planOf, Inserted, Emitted, Scannable, Went, Written, Scanned};
 ghost use Rattle.utf8.specs.declared.Found.the-variants as utf8;
 use token::AUG;
 use token::COMMA;
@@ -85,29 +86,30 @@ pub const WORDS: [[u8; 10]; 55] = [
     *b"G123456789",
 ];
 
-// For each word its length, the number of its type, and the place of the next one with the same first letter, 55 for none.
+// For each word its length, the number of its type, and the place of the next one to try: as long and with the same first letter, or, where
+// there is none, shorter; 55 for none.
 pub const INFOS: [[u8; 3]; 55] = [
     [4, 20, 1],
     [4, 20, 49],
     [4, 20, 23],
     [3, 14, 4],
-    [3, 14, 6],
-    [3, 14, 8],
+    [3, 14, 13],
+    [3, 14, 15],
     [5, 14, 7],
-    [5, 14, 9],
-    [5, 14, 11],
+    [5, 14, 16],
+    [5, 14, 18],
     [2, 14, 10],
-    [2, 14, 12],
-    [2, 14, 15],
-    [1, 14, 13],
+    [2, 14, 19],
+    [2, 14, 21],
+    [1, 14, 55],
     [3, 12, 14],
-    [3, 12, 16],
-    [3, 12, 18],
+    [3, 12, 9],
+    [3, 12, 11],
     [5, 12, 17],
-    [5, 12, 19],
-    [5, 12, 21],
+    [5, 12, 3],
+    [5, 12, 5],
     [2, 12, 20],
-    [2, 12, 55],
+    [2, 12, 12],
     [2, 12, 22],
     [1, 12, 55],
     [1, 2, 55],
@@ -116,8 +118,8 @@ pub const INFOS: [[u8; 3]; 55] = [
     [3, 11, 55],
     [3, 4, 28],
     [3, 4, 51],
-    [3, 4, 30],
-    [10, 4, 55],
+    [3, 4, 55],
+    [10, 4, 29],
     [3, 10, 32],
     [3, 10, 34],
     [3, 10, 36],
@@ -127,11 +129,11 @@ pub const INFOS: [[u8; 3]; 55] = [
     [3, 8, 38],
     [3, 8, 48],
     [3, 8, 55],
-    [1, 4, 42],
-    [1, 4, 44],
+    [1, 4, 55],
+    [1, 4, 55],
     [4, 9, 43],
-    [4, 9, 55],
-    [4, 9, 55],
+    [4, 9, 40],
+    [4, 9, 41],
     [2, 9, 46],
     [2, 9, 55],
     [2, 9, 55],
@@ -144,7 +146,10 @@ pub const INFOS: [[u8; 3]; 55] = [
     [1, 68, 55],
 ];
 
-// The longest word so far: its length, 0 for none, and the number of its type.
+// The longest word has so many letters (`diminished`).
+const LONGEST_WORD: usize = 10;
+
+// The word that was found: its length, 0 for none, and the number of its type.
 pub struct Match {
     pub len: usize,
     pub kind: u8,
@@ -199,18 +204,14 @@ fn info(infos: &[[u8; 3]; 55], i: usize, j: usize) -> u8
     infos[i][j]
 }
 
-// Does word i, of n letters, stand at a place of the text?
+// Does word i, of n letters, stand at a place of the text? Its first letter does.
 fn matches(words: &[[u8; 10]; 55], i: usize, n: usize, text: &[u8], at: usize) -> bool
-    requires { ⌜ (now words ≡ map padded wordList) × (i < 55) × (n ≡ length (wordAt i .text)) × (at ≤ length (now text)) ⌝ }
+    requires { ⌜ (now words ≡ map padded wordList) × Candidate (now text) at i n × (at + n ≤ length (now text)) ⌝ }
     ensures { λ r. ⌜ r ≡ begins (wordAt i .text) (drop at (now (text .entry))) ⌝ }
 {
-    let mut j = 0;
+    let mut j = 1;
     while j < n {
-        let k = at + j;
-        if text.len() <= k {
-            return false;
-        }
-        if text[k] != letter(words, i, j) {
+        if text[at + j] != letter(words, i, j) {
             return false;
         }
         j += 1;
@@ -218,34 +219,20 @@ fn matches(words: &[[u8; 10]; 55], i: usize, n: usize, text: &[u8], at: usize) -
     true
 }
 
-// Word i in place of m, where it stands at a place of the text and is longer.
-fn better(
-    words: &[[u8; 10]; 55],
-    infos: &[[u8; 3]; 55],
-    text: &[u8],
-    at: usize,
-    i: usize,
-    m: Match,
-) -> Match
-    requires { ⌜ Tables (now words) (now infos) × (i < 55) × (at ≤ length (now text)) ⌝ }
-    ensures { λ r. ⌜ r ≡ betterOf (drop at (now (text .entry))) (wordAt i) m ⌝ }
+// The same, where only ends up to the last one are tried: no word of the run ends behind it.
+fn stands(words: &[[u8; 10]; 55], i: usize, n: usize, text: &[u8], at: usize, last: usize) -> bool
+    requires { ⌜ (now words ≡ map padded wordList) × Candidate (now text) at i n × (last ≡ lastEnd (now text) at) × (length (now text) ≤ 256) ⌝ }
+    ensures { λ r. ⌜ r ≡ begins (wordAt i .text) (drop at (now (text .entry))) ⌝ }
 {
-    let n = wide(info(infos, i, 0));
-    if n <= m.len {
-        return m;
+    if last < at + n {
+        return false;
     }
-    if matches(words, i, n, text, at) {
-        return Match {
-            len: n,
-            kind: info(infos, i, 1),
-        };
-    }
-    m
+    matches(words, i, n, text, at)
 }
 
-// The place of the first word that begins with a letter, 55 for none.
+// The place of the longest word that begins with a letter, the first of such; 55 for none.
 fn first_word(b: u8) -> usize
-    ensures { λ r. ⌜ r ≡ firstPlace b wordList ⌝ }
+    ensures { λ r. ⌜ r ≡ placeDown b longestWord ⌝ }
 {
     match b {
         b'A' => 31,
@@ -255,36 +242,19 @@ fn first_word(b: u8) -> usize
         b'E' => 52,
         b'F' => 53,
         b'G' => 54,
-        b'M' => 3,
+        b'M' => 6,
         b'N' => 45,
-        b'O' => 40,
+        b'O' => 42,
         b'S' => 24,
         b'a' => 33,
         b'b' => 2,
-        b'd' => 29,
-        b'm' => 5,
+        b'd' => 30,
+        b'm' => 8,
         b'n' => 47,
-        b'o' => 41,
+        b'o' => 44,
         b's' => 26,
         _ => 55,
     }
-}
-
-// The longest word that stands at a place of the text: only words with the letter that is there are tried.
-fn longest(words: &[[u8; 10]; 55], infos: &[[u8; 3]; 55], text: &[u8], at: usize) -> Match
-    requires { ⌜ Tables (now words) (now infos) × (at < length (now text)) ⌝ }
-    ensures { λ r. ⌜ r ≡ longestWord (drop at (now (text .entry))) ⌝ }
-{
-    let mut m = Match {
-        len: 0,
-        kind: ILLEGAL,
-    };
-    let mut i = first_word(text[at]);
-    while i < 55 {
-        m = better(words, infos, text, at, i, m);
-        i = wide(info(infos, i, 2));
-    }
-    m
 }
 
 fn is_letter(c: u32) -> bool
@@ -300,6 +270,64 @@ fn is_letter(c: u32) -> bool
         return false;
     }
     c <= 122
+}
+
+// Where the letter run at a place of the text ends.
+fn run_end(text: &[u8], at: usize) -> usize
+    requires { ⌜ at ≤ length (now text) ⌝ }
+    ensures { λ r. ⌜ r ≡ at + runEnd (drop at (now (text .entry))) ⌝ }
+{
+    let mut end = at;
+    while end < text.len() {
+        let b = text[end];
+        if !is_letter(b as u32) {
+            return end;
+        }
+        end += 1;
+    }
+    end
+}
+
+// The last end to try from a place of a letter run that ends at `end`.
+fn last_end(at: usize, end: usize) -> usize
+    requires { ⌜ at ≤ 256 ⌝ }
+    ensures { λ r. ⌜ r ≡ min end (at + longestWord) ⌝ }
+{
+    if at + LONGEST_WORD < end {
+        return at + LONGEST_WORD;
+    }
+    end
+}
+
+// The word at a place of a letter run that ends at `end`, by trying ends from the last one down: the words with the letter that stands
+// there come the longest first, so that the first one that stands there is it.
+fn word_by_ends(
+    words: &[[u8; 10]; 55],
+    infos: &[[u8; 3]; 55],
+    text: &[u8],
+    at: usize,
+    end: usize,
+) -> Match
+    requires { ⌜ Tables (now words) (now infos) × (at < length (now text)) × (length (now text) ≤ 256)
+        × (end ≡ at + runEnd (drop at (now text))) ⌝ }
+    ensures { λ r. ⌜ r ≡ wordByEnds (drop at (now (text .entry))) ⌝ }
+{
+    let last = last_end(at, end);
+    let mut i = first_word(text[at]);
+    while i < 55 {
+        let n = wide(info(infos, i, 0));
+        if stands(words, i, n, text, at, last) {
+            return Match {
+                len: n,
+                kind: info(infos, i, 1),
+            };
+        }
+        i = wide(info(infos, i, 2));
+    }
+    Match {
+        len: 0,
+        kind: ILLEGAL,
+    }
 }
 
 // The digit that a character is, 10 for none.
@@ -411,21 +439,11 @@ fn number_head(d: u8, n: usize, e: u8, m: usize) -> Head
     Head::Digit(n)
 }
 
-// What the character c, of n bytes, begins at a place of the text. A digit behind the first one has one byte.
-fn head_by(
-    words: &[[u8; 10]; 55],
-    infos: &[[u8; 3]; 55],
-    text: &[u8],
-    at: usize,
-    c: u32,
-    n: usize,
-) -> Head
-    requires { ⌜ Tables (now words) (now infos) × (at + n ≤ length (now text)) × (at < length (now text)) × (length (now text) ≤ 256) ⌝ }
+// What the character c, of n bytes, begins at a place of the text, if it is no letter. A digit behind the first one has one byte.
+fn head_by(text: &[u8], at: usize, c: u32, n: usize) -> Head
+    requires { ⌜ (isLetter c ≡ false) × (at + n ≤ length (now text)) × (length (now text) ≤ 256) ⌝ }
     ensures { λ r. ⌜ r ≡ headBy (utf8.Char c n) (drop at (now (text .entry))) ⌝ }
 {
-    if is_letter(c) {
-        return word_head(longest(words, infos, text, at));
-    }
     let d = digit_of(c);
     if d < 10 {
         return number_head(d, n, digit_at(text, at + n), 1);
@@ -436,13 +454,13 @@ fn head_by(
     sign_head(c, n)
 }
 
-// What stands at a place of the text.
-fn head_at(words: &[[u8; 10]; 55], infos: &[[u8; 3]; 55], text: &[u8], at: usize) -> Head
-    requires { ⌜ Tables (now words) (now infos) × (at < length (now text)) × (length (now text) ≤ 256) ⌝ }
+// What stands at a place of the text that has no letter.
+fn head_at(text: &[u8], at: usize) -> Head
+    requires { ⌜ (runEnd (drop at (now text)) ≡ 0) × (at < length (now text)) × (length (now text) ≤ 256) ⌝ }
     ensures { λ r. ⌜ r ≡ headOf (drop at (now (text .entry))) ⌝ }
 {
     match utf8::char_at(text, at) {
-        Found::Char(c, n) => head_by(words, infos, text, at, c, n),
+        Found::Char(c, n) => head_by(text, at, c, n),
         Found::Bad => Head::Word(ILLEGAL, 1),
         Found::End => Head::Word(ILLEGAL, 1),
     }
@@ -533,6 +551,53 @@ fn emit(kinds: &mut [u8], poss: &mut [u16], lens: &mut [u16], h: Head, s: Scan) 
     next
 }
 
+// Cuts a letter run that ends at `end`: from each start the longest word, or an Illegal letter.
+fn parse_string(
+    words: &[[u8; 10]; 55],
+    infos: &[[u8; 3]; 55],
+    text: &[u8],
+    kinds: &mut [u8],
+    poss: &mut [u16],
+    lens: &mut [u16],
+    start: Scan,
+    end: usize,
+) -> Scan
+    requires { ⌜ Tables (now words) (now infos) × Scannable (now text) start (now kinds) (now poss) (now lens)
+        × (end ≡ start .at + runEnd (drop (start .at) (now text))) ⌝ }
+    ensures { λ r. ⌜ Went (now (text .entry)) start r (rows (now (kinds .entry)) (now (poss .entry)) (now (lens .entry)))
+        (rows (now (kinds .exit)) (now (poss .exit)) (now (lens .exit))) × (end ≤ r .at) ⌝ }
+{
+    let mut s = start;
+    while s.at < end {
+        let at = s.at;
+        let h = word_head(word_by_ends(words, infos, text, at, end));
+        s = emit(kinds, poss, lens, h, s);
+    }
+    s
+}
+
+// Scans what stands at a place of the text: a letter run, or one character or number.
+fn scan_token(
+    words: &[[u8; 10]; 55],
+    infos: &[[u8; 3]; 55],
+    text: &[u8],
+    kinds: &mut [u8],
+    poss: &mut [u16],
+    lens: &mut [u16],
+    s: Scan,
+) -> Scan
+    requires { ⌜ Tables (now words) (now infos) × Scannable (now text) s (now kinds) (now poss) (now lens) × (s .at < length (now text)) ⌝ }
+    ensures { λ r. ⌜ Went (now (text .entry)) s r (rows (now (kinds .entry)) (now (poss .entry)) (now (lens .entry)))
+        (rows (now (kinds .exit)) (now (poss .exit)) (now (lens .exit))) × (s .at < r .at) ⌝ }
+{
+    let at = s.at;
+    let end = run_end(text, at);
+    if at < end {
+        return parse_string(words, infos, text, kinds, poss, lens, s, end);
+    }
+    emit(kinds, poss, lens, head_at(text, at), s)
+}
+
 // Writes the tokens of a text, its word list lent; their number is returned.
 fn scan_text(
     words: &[[u8; 10]; 55],
@@ -552,9 +617,7 @@ fn scan_text(
         count: 0,
     };
     while s.at < text.len() {
-        let at = s.at;
-        let h = head_at(words, infos, text, at);
-        s = emit(kinds, poss, lens, h, s);
+        s = scan_token(words, infos, text, kinds, poss, lens, s);
     }
     s.count
 }

@@ -1,10 +1,11 @@
--- The character that stands there decides.
+-- The character that stands there decides; it is no letter, since no letter run begins there.
 -- Assumes nothing.
 use mathlib.Core.Path.{sym, ap, _∙_}
 use native.Mathlib.Omega.{arith}
 use lib.ListN.{drop, length-drop}
 use borrow.Author.Needs.{needs}
 use Rattle.lexer.specs.Lexer.{headBy, headOf}
+use Rattle.lexer.proofs.Heads.{no-letter}
 use Rattle.lexer.proofs.head_at.Statement.{statement}
 use Rattle.lexer.proofs.head_at.Tie as tie
 use Rattle.utf8.proofs.Laws.{found-within}
@@ -19,8 +20,10 @@ head-by-requires : tie.Need-head-by-requires
 head-by-requires c κs =
     let a = c .before .before .before .before .before .args in
     let p = c .before .before .before .before .before .pre in
-    let w = found-within (drop (a .at) (a .text .now)) _ _ (sym (c .before .before .before .char-at .ensures) ∙ c .before .c .given .1) in
-    (p .0, omega (arith, w, length-drop (a .at) (a .text .now), p .1), p .1, p .2)
+    let s = drop (a .at) (a .text .now) in
+    let e = sym (c .before .before .before .char-at .ensures) ∙ c .before .c .given .1 in
+    let l = length-drop (a .at) (a .text .now) in
+    (no-letter s _ _ e (omega (arith, p .1)) (p .0), omega (arith, found-within s _ _ e, p .1), p .2)
 
 enum-told : tie.Need-enum-told
 enum-told c = search needs

@@ -3,7 +3,7 @@
 use Prim.Native.Nat.{_<_}
 use native.Mathlib.Omega.{arith}
 use borrow.Author.Tests.{le-leb, lt-leb}
-use Rattle.lexer.specs.Lexer.{isLetter}
+use Rattle.lexer.specs.Words.{isLetter}
 use Rattle.lexer.proofs.is_letter.Statement.{statement}
 use Rattle.lexer.proofs.is_letter.Tie as tie
 

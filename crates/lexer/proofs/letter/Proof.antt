@@ -5,7 +5,8 @@ use mathlib.Core.Path.{ap, _∙_}
 use native.Mathlib.Omega.{arith}
 use lib.ListN.{getD}
 use borrow.Author.Needs.{needs}
-use Rattle.lexer.proofs.Words.{word-fits, letter-is}
+use Rattle.lexer.proofs.Runs.{word-fits}
+use Rattle.lexer.proofs.Words.{letter-is}
 use Rattle.lexer.proofs.letter.Statement.{statement}
 use Rattle.lexer.proofs.letter.Tie as tie
 
@@ -16,7 +17,7 @@ index-1-result : tie.Need-index-1-result
 index-1-result c = search needs
 
 index-2-result : tie.Need-index-2-result
-index-2-result c = omega (arith, word-fits (c .args .i) (c .pre .1), c .pre .2)
+index-2-result c = omega (arith, word-fits (c .args .i) (c .pre .1) .short, c .pre .2)
 
 returns : tie.Need-returns
 returns c =

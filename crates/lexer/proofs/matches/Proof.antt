@@ -1,21 +1,21 @@
--- The invariant: the word stands there if its letters from j on stand behind the j that were compared.
+-- The invariant: the word stands there if its letters from j on stand behind the j that were compared. The first is known.
 -- Assumes nothing.
-use mathlib.Core.Bool.{Bool, _&&_}
 use mathlib.Core.Path.{_≡_, sym, ap, _∙_}
 use Prim.Native.Nat.{ℕ, _+_, _-_, _≤_, _<_}
+use native.Mathlib.Nat.{add-zero}
 use native.Mathlib.Omega.{arith}
 use lib.ListN.{length, getD, drop}
 use borrow.Author.Needs.{needs}
-use borrow.Author.Tests.{eq-eqb, ne-eqb}
 use Rattle.utf8.specs.Utf8.{begins}
 use Rattle.lexer.specs.State.{wordAt}
 use Rattle.lexer.specs.Words.{words}
-use Rattle.lexer.proofs.Words.{word-fits, begins-short, begins-turn, begins-all}
+use Rattle.lexer.proofs.Runs.{word-fits}
+use Rattle.lexer.proofs.Words.{begins-same, begins-other, begins-all}
 use Rattle.lexer.proofs.matches.Statement.{statement}
 use Rattle.lexer.proofs.matches.Tie as tie
 
 abbrev Inv-loop : tie.InvT-loop
-Inv-loop words i n text at j₀ j = (j ≤ n) × (begins (wordAt i .text) (drop at text) ≡ begins (drop j (wordAt i .text)) (drop (at + j) text))
+Inv-loop words i n text at j₀ j = (1 ≤ j) × (j ≤ n) × (begins (wordAt i .text) (drop at text) ≡ begins (drop j (wordAt i .text)) (drop (at + j) text))
 
 abbrev μ-loop : tie.MeasureT-loop
 μ-loop words i n text at j₀ j = n - j
@@ -23,67 +23,54 @@ abbrev μ-loop : tie.MeasureT-loop
 loop-holds : tie.Need-loop-holds Inv-loop μ-loop
 loop-holds c =
     let a = c .before .args in
-    let e : a .at ≡ a .at + 0 = omega arith in
-    (omega arith, ap (λ (m : ℕ). begins (wordAt (a .i) .text) (drop m (a .text .now))) e)
-
-add-k : tie.Need-add-k Inv-loop μ-loop
-add-k c = omega (arith, word-fits (c .before .before .before .args .i) (c .before .before .before .pre .1), c .before .before .before .pre .2)
-
-returns : tie.Need-returns Inv-loop μ-loop
-returns c =
-    let a = c .before .before .before .before .args in
+    let p = c .before .pre in
     let w = wordAt (a .i) .text in
-    let j = c .before .before .loop .j in
-    let inv = c .before .before .loop .inv in
-    let hj : j < length w = omega (arith, c .before .before .before .before .pre .2) in
-    sym (inv .1 ∙ begins-short w (a .text .now) j (a .at + j) hj (c .if1 .taken))
+    let f = word-fits (a .i) (p .1 .listed) .some in
+    let e = add-zero (a .at) in
+    let l : getD (a .text .now) (a .at + 0) 0 ≡ getD w 0 0 = ap (λ (k : ℕ). getD (a .text .now) k 0) e ∙ sym (p .1 .letter) in
+    (omega arith, omega (arith, f, p .1 .size), ap (λ (k : ℕ). begins w (drop k (a .text .now))) (sym e) ∙ begins-same w (a .text .now) (a .at) 0 (omega arith) (omega (arith, p .1 .size)) l)
 
-shared-slice-read-if2 : tie.Need-shared-slice-read-if2 Inv-loop μ-loop
-shared-slice-read-if2 c = search needs
+add-if1 : tie.Need-add-if1 Inv-loop μ-loop
+add-if1 c = omega arith
+
+shared-slice-read-if1 : tie.Need-shared-slice-read-if1 Inv-loop μ-loop
+shared-slice-read-if1 c = omega arith
 
 letter-requires : tie.Need-letter-requires Inv-loop μ-loop
 letter-requires c κs =
-    let p = c .before .before .before .before .before .pre in
-    (p .0, p .1, omega (arith, p .2))
+    let p = c .before .before .before .before .pre in
+    (p .0, p .1 .listed, omega (arith, p .1 .size))
 
-returns-2 : tie.Need-returns-2 Inv-loop μ-loop
-returns-2 c =
-    let a = c .before .before .before .before .before .before .before .args in
+returns : tie.Need-returns Inv-loop μ-loop
+returns c =
+    let a = c .before .before .before .before .before .before .args in
+    let p = c .before .before .before .before .before .before .pre in
     let w = wordAt (a .i) .text in
-    let j = c .before .before .before .before .before .loop .j in
-    let inv = c .before .before .before .before .before .loop .inv in
-    let hj : j < length w = omega (arith, c .before .before .before .before .before .before .before .pre .2) in
-    let e = ne-eqb (getD w j 0) (getD (a .text .now) (a .at + j) 0) (λ e. c .if2 .taken (sym e ∙ sym (c .before .letter .ensures))) in
-    sym (inv .1 ∙ begins-turn w (a .text .now) j (a .at + j) hj (c .before .before .before .if1 .left) ∙ ap (λ (b : Bool). b && begins (drop (j + 1) w) (drop (a .at + j + 1) (a .text .now))) e)
+    let j = c .before .before .before .before .loop .j in
+    let inv = c .before .before .before .before .loop .inv in
+    sym (inv .2 ∙ begins-other w (a .text .now) (a .at) j (omega (arith, p .1 .size)) (omega arith) (λ e. c .if1 .taken (e ∙ sym (c .before .letter .ensures))))
 
 add-j : tie.Need-add-j Inv-loop μ-loop
-add-j c = search needs
+add-j c = omega arith
 
 loop-less : tie.Need-loop-less Inv-loop μ-loop
 loop-less c = omega arith
 
 loop-again : tie.Need-loop-again Inv-loop μ-loop
 loop-again c =
-    let a = c .before .before .before .before .before .before .before .args in
+    let a = c .before .before .before .before .before .before .args in
+    let p = c .before .before .before .before .before .before .pre in
     let w = wordAt (a .i) .text in
-    let j = c .before .before .before .before .before .loop .j in
-    let inv = c .before .before .before .before .before .loop .inv in
-    let hj : j < length w = omega (arith, c .before .before .before .before .before .before .before .pre .2) in
-    let e = eq-eqb (getD w j 0) (getD (a .text .now) (a .at + j) 0) (sym (c .before .letter .ensures) ∙ sym (c .if2 .left)) in
-    let m : a .at + j + 1 ≡ a .at + (j + 1) = omega arith in (
-      omega arith,
-      inv .1 ∙ begins-turn w (a .text .now) j (a .at + j) hj (c .before .before .before .if1 .left)
-          ∙ ap (λ (b : Bool). b && begins (drop (j + 1) w) (drop (a .at + j + 1) (a .text .now))) e
-          ∙ ap (λ (m : ℕ). begins (drop (j + 1) w) (drop m (a .text .now))) m,
-    )
+    let j = c .before .before .before .before .loop .j in
+    let inv = c .before .before .before .before .loop .inv in
+    (omega arith, omega arith, inv .2 ∙ begins-same w (a .text .now) (a .at) j (omega (arith, p .1 .size)) (omega arith) (c .if1 .left ∙ c .before .letter .ensures))
 
-returns-3 : tie.Need-returns-3 Inv-loop μ-loop
-returns-3 c =
+returns-2 : tie.Need-returns-2 Inv-loop μ-loop
+returns-2 c =
     let a = c .before .before .before .args in
-    let w = wordAt (a .i) .text in
+    let p = c .before .before .before .pre in
     let j = c .before .loop .j in
-    let inv = c .before .loop .inv in
-    sym (inv .1 ∙ begins-all w (a .text .now) j (a .at + j) (omega (arith, c .before .before .before .pre .2)))
+    sym (c .before .loop .inv .2 ∙ begins-all (wordAt (a .i) .text) (a .text .now) j (a .at + j) (omega (arith, p .1 .size)))
 
 pub matches-spec : {M : Type 1} → statement M
 matches-spec =
@@ -92,12 +79,11 @@ matches-spec =
     Inv-loop
     μ-loop
     loop-holds
-    add-k
-    returns
-    shared-slice-read-if2
+    add-if1
+    shared-slice-read-if1
     letter-requires
-    returns-2
+    returns
     add-j
     loop-less
     loop-again
-    returns-3)
+    returns-2)

@@ -1,4 +1,4 @@
--- The invariant is `Walked`: what stands in the arrays and what is still to come make the tokens of the text.
+-- The invariant is `Went`: what stands in the arrays and what is still to come make the tokens of the text.
 -- Assumes nothing.
 use mathlib.Core.Path.{_≡_, refl}
 use Prim.Native.Nat.{_-_, _≤_}
@@ -6,44 +6,34 @@ use native.Mathlib.Omega.{arith}
 use lib.ListN.{length}
 use borrow.Author.Needs.{needs}
 use Rattle.token.specs.Token.{rows}
+use Rattle.lexer.specs.State.{Went}
 use Rattle.lexer.specs.Words.{words}
-use Rattle.lexer.proofs.Steps.{Walked, walk-start, walk-head, walk-step, walk-far, walk-end}
+use Rattle.lexer.proofs.Steps.{went-start, went-on, went-end}
 use Rattle.lexer.proofs.scan_text.Statement.{statement}
 use Rattle.lexer.proofs.scan_text.Tie as tie
 use Rattle.token.proofs.Rows.{rows-room}
 
 abbrev Inv-loop : tie.InvT-loop
 Inv-loop words infos text kinds₀ poss₀ lens₀ s₀ kinds poss lens s =
-    Walked text s (rows kinds₀ poss₀ lens₀) (rows kinds poss lens) × (length kinds ≡ length kinds₀) × (length poss ≡ length poss₀) × (length lens ≡ length lens₀)
+    Went text s₀ s (rows kinds₀ poss₀ lens₀) (rows kinds poss lens) × (length kinds ≡ length kinds₀) × (length poss ≡ length poss₀) × (length lens ≡ length lens₀)
 
 abbrev μ-loop : tie.MeasureT-loop
 μ-loop words infos text kinds₀ poss₀ lens₀ s₀ kinds poss lens s = length text - s .at
 
 loop-holds : tie.Need-loop-holds Inv-loop μ-loop
-loop-holds c = (walk-start _ _, refl, refl, refl)
+loop-holds c = (went-start _ (record { among = omega arith; some = omega arith; within = omega arith }), refl, refl, refl)
 
-head-at-requires : tie.Need-head-at-requires Inv-loop μ-loop
-head-at-requires c κs = let p = c .before .before .before .before .before .before .before .pre in (p .0, c .if1 .taken, p .1)
-
-emit-requires : tie.Need-emit-requires Inv-loop μ-loop
-emit-requires c κs =
-    let i = c .before .before .before .before .before .before .loop .inv in
-    let f = i .0 .few in
-    let w = walk-head (i .0) (c .before .before .before .before .if1 .taken) (c .before .before .before .head-at .ensures) in
-    let p = c .before .before .before .before .before .before .before .before .before .before .before .pre in
-    (omega (arith, w .1, p .1), f .among, omega (arith, f .some, f .within, p .1), omega (arith, f .some, c .before .before .before .before .if1 .taken, i .1, i .2, i .3, p .2))
+scan-token-requires : tie.Need-scan-token-requires Inv-loop μ-loop
+scan-token-requires c κs =
+    let p = c .before .before .before .before .before .before .before .before .before .before .pre in
+    let i = c .before .before .before .before .before .loop .inv in
+    (p .0, record { short = p .1; few = i .0 .few; room = record { kinds = omega (arith, i .1, p .2); poss = omega (arith, i .1, i .2, p .2); lens = omega (arith, i .1, i .3, p .2) } }, c .before .before .before .if1 .taken)
 
 loop-less : tie.Need-loop-less Inv-loop μ-loop
-loop-less c =
-    let i = c .before .before .before .before .before .before .before .before .before .before .before .before .before .loop .inv in
-    omega (arith, walk-far (i .0) (c .before .before .before .before .before .before .before .before .before .before .before .if1 .taken) (c .before .before .before .before .before .before .before .before .before .before .head-at .ensures) (c .before .before .before .before .before .before .emit .ensures), c .before .before .before .before .before .before .before .before .before .before .before .if1 .taken)
+loop-less c = omega (arith, c .before .before .before .before .before .before .scan-token .ensures .1, c .before .before .before .before .before .before .before .before .before .before .if1 .taken)
 
 loop-again : tie.Need-loop-again Inv-loop μ-loop
-loop-again c =
-    let i = c .before .before .before .before .before .before .before .before .before .before .before .before .before .loop .inv in
-    let f = i .0 .few in
-    let p = c .before .before .before .before .before .before .before .before .before .before .before .before .before .before .before .before .before .before .pre in
-    (walk-step (i .0) (c .before .before .before .before .before .before .before .before .before .before .before .if1 .taken) (c .before .before .before .before .before .before .before .before .before .before .head-at .ensures) (rows-room _ _ _ _ (omega (arith, f .some, c .before .before .before .before .before .before .before .before .before .before .before .if1 .taken, i .1, i .2, i .3, p .2))) (c .before .before .before .before .before .before .emit .ensures), omega arith, omega arith, omega arith)
+loop-again c = (went-on (c .before .before .before .before .before .before .before .before .before .before .before .before .loop .inv .0) (c .before .before .before .before .before .before .scan-token .ensures .0), omega arith, omega arith, omega arith)
 
 same-length : tie.Need-same-length Inv-loop μ-loop
 same-length c = search needs
@@ -59,8 +49,9 @@ returns c =
     let i = c .before .before .loop .inv in
     let s = c .before .before .loop .s in
     let f = i .0 .few in
-    let b : s .count ≤ length (rows (c .before .before .loop .kinds) (c .before .before .loop .poss) (c .before .before .loop .lens)) = rows-room _ _ _ _ (omega (arith, f .some, f .within, i .1, i .2, i .3, c .before .before .before .before .before .before .before .pre .2)) in
-    (walk-end (c .before .before .before .before .before .before .before .args .text .now) s _ _ (i .0) (c .if1 .left) b, omega (arith, f .some, f .within))
+    let b : s .count ≤ length (rows (c .before .before .loop .kinds) (c .before .before .loop .poss) (c .before .before .loop .lens)) =
+    rows-room _ _ _ _ (omega (arith, f .some, f .within, i .1, i .2, i .3, c .before .before .before .before .before .before .before .pre .2)) in
+    (went-end (c .before .before .before .before .before .before .before .args .text .now) s _ _ (i .0) (c .if1 .left) b, omega (arith, f .some, f .within))
 
 pub scan-text-spec : {M : Type 1} → statement M
 scan-text-spec =
@@ -69,8 +60,7 @@ scan-text-spec =
     Inv-loop
     μ-loop
     loop-holds
-    head-at-requires
-    emit-requires
+    scan-token-requires
     loop-less
     loop-again
     same-length

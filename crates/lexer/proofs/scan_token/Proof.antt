@@ -1,0 +1,72 @@
+-- A letter run is cut as a whole; any other head is one step of the scan.
+-- Assumes nothing.
+use native.Mathlib.Omega.{arith}
+use borrow.Author.Needs.{needs}
+use Rattle.lexer.proofs.Steps.{step-head, step-went, step-place}
+use Rattle.lexer.proofs.scan_token.Statement.{statement}
+use Rattle.lexer.proofs.scan_token.Tie as tie
+use Rattle.token.proofs.Rows.{rows-room}
+
+run-end-requires : tie.Need-run-end-requires
+run-end-requires c κs = search needs
+
+parse-string-requires : tie.Need-parse-string-requires
+parse-string-requires c κs = search needs
+
+same-length : tie.Need-same-length
+same-length c = search needs
+
+same-length-2 : tie.Need-same-length-2
+same-length-2 c = search needs
+
+same-length-3 : tie.Need-same-length-3
+same-length-3 c = search needs
+
+returns : tie.Need-returns
+returns c = search needs
+
+head-at-requires : tie.Need-head-at-requires
+head-at-requires c κs = search needs
+
+emit-requires : tie.Need-emit-requires
+emit-requires c κs =
+    let p = c .before .before .before .before .before .before .before .before .before .before .pre in
+    let f = p .1 .few in
+    let w = step-head f (p .2) (c .head-at .ensures) in
+    (omega (arith, w .1, p .1 .short), f .among, omega (arith, f .some, f .within, p .1 .short), omega (arith, f .some, p .2, p .1 .room))
+
+same-length-4 : tie.Need-same-length-4
+same-length-4 c = search needs
+
+same-length-5 : tie.Need-same-length-5
+same-length-5 c = search needs
+
+same-length-6 : tie.Need-same-length-6
+same-length-6 c = search needs
+
+returns-2 : tie.Need-returns-2
+returns-2 c =
+    let p = c .before .before .before .before .before .before .before .before .before .before .before .before .before .before .before .before .before .pre in
+    let f = p .1 .few in
+    let h = c .before .before .before .before .before .before .before .head-at .ensures in
+    let e = c .before .before .before .before .before .before .emit .ensures in (
+      step-went f (p .2) h (rows-room _ _ _ _ (omega (arith, f .some, p .2, p .1 .room))) e,
+      omega (arith, step-place f (p .2) h e, step-head f (p .2) h .0),
+    )
+
+pub scan-token-spec : {M : Type 1} → statement M
+scan-token-spec =
+    tie.close
+    (tie.spec
+    run-end-requires
+    parse-string-requires
+    same-length
+    same-length-2
+    same-length-3
+    returns
+    head-at-requires
+    emit-requires
+    same-length-4
+    same-length-5
+    same-length-6
+    returns-2)
