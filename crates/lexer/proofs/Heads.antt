@@ -1,7 +1,7 @@
 -- What a text begins with: a digit goes by one byte, since every digit is a byte below 128 and a character that begins with another byte is
 -- 128 or more; and how many bytes a head has.
 -- Assumes nothing.
-use mathlib.Core.Bool.{Bool, true, false, _&&_, cond}
+use mathlib.Core.Bool.{Bool, true, false, cond}
 use mathlib.Core.List.{List, [], _∷_, _++_}
 use mathlib.Core.Path.{_≡_, refl, sym, ap, _∙_, subst}
 use Prim.Native.Nat.{ℕ, suc, _+_, _*_, _-_, _≤_, _<_}
@@ -172,8 +172,9 @@ pub head-sized : (s : List ℕ) → 0 < length s → Sized (headOf s) s
 unfolding headOf
 head-sized s l = go (charOf s) refl
   where
-    by : (a b c : Bool) (k n : ℕ) → 1 ≤ n → n ≤ length s
-        → Sized (cond a (wordHead (wordByEnds s)) (cond b (numberBy (digitOf k) n (charOf (drop n s))) (cond c head.Space (signHead k n)))) s
+    by : (a b c : Bool) (k n : ℕ) → 1 ≤ n → n ≤ length s → Sized
+        (cond a (wordHead (wordByEnds s)) (cond b (numberBy (digitOf k) n (charOf (drop n s))) (cond c head.Space (signHead k n))))
+        s
     by true b c k n x y = word-sized s (wordByEnds s) l (omega (arith, ends-within words (runEnd s) s, run-within s))
     by false true c k n x y = number-sized s (digitOf k) n x y
     by false false true k n x y = record { some = omega arith; within = l; short = omega arith }

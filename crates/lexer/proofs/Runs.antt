@@ -17,8 +17,7 @@ use borrow.Author.Tests.{eqb-true, ne-eqb}
 use mir.Facts.{and-yes}
 use Rattle.utf8.specs.Utf8.{begins}
 use Rattle.lexer.specs.State.{wordAt}
-use Rattle.lexer.specs.Words.{Word, word, words, match, noMatch, isLetter, runEnd, wordTo, orElse, byEnds, wordByEnds}
-use Rattle.lexer.specs.declared.Match.{Match}
+use Rattle.lexer.specs.Words.{Word, word, words, match, noMatch, isLetter, runEnd, wordTo, byEnds, wordByEnds}
 
 pub run-none : (b : ℕ) (s : List ℕ) → isLetter b ≡ false → runEnd (b ∷ s) ≡ 0
 unfolding runEnd

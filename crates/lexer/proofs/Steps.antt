@@ -1,5 +1,5 @@
--- One step of the scan keeps all tokens: those that stand in the arrays and those still to come. So does a letter run that is cut (`Cutting`),
--- and so do two parts of the scan, one after the other (`went-on`).
+-- One step of the scan keeps all tokens: those that stand in the arrays and those still to come. So does a letter run that is cut
+-- (`Cutting`), and so do two parts of the scan, one after the other (`went-on`).
 -- Assumes nothing.
 use mathlib.Core.Bool.{true, false}
 use mathlib.Core.List.{List, [], _∷_, _++_, append-assoc}
@@ -177,7 +177,8 @@ module _ {text : List ℕ} {end : ℕ} {s₀ s : Scan} {R₀ R : List Token} (K 
   cut-inside = omega (arith, letters, run-within (drop (s .at) text), length-drop (s .at) text)
 
 -- its next word
-module _ {text : List ℕ} {end : ℕ} {s₀ s : Scan} {R₀ R : List Token} {h : Head} (K : Cutting text end s₀ s R₀ R) (l : s .at < end) (e : h ≡ wordHead (wordByEnds (drop (s .at) text))) where
+module _ {text : List ℕ} {end : ℕ} {s₀ s : Scan} {R₀ R : List Token} {h : Head}
+    (K : Cutting text end s₀ s R₀ R) (l : s .at < end) (e : h ≡ wordHead (wordByEnds (drop (s .at) text))) where
   pub cut-head : h ≡ headOf (drop (s .at) text)
   cut-head = e ∙ sym (letter-head (drop (s .at) text) (letters K l))
 
@@ -186,11 +187,15 @@ module _ {text : List ℕ} {end : ℕ} {s₀ s : Scan} {R₀ R : List Token} {h 
       let t = drop (s .at) text in
       let n : sizeOf h ≤ runEnd t = subst (λ (g : Head). sizeOf g ≤ runEnd t) (sym e) (word-within t (letters K l)) in
       let z = step-place (K .went .few) (cut-inside K l) cut-head E in
-      let q : runEnd (drop (sizeOf h) t) ≡ runEnd (drop (s′ .at) text) = ap runEnd (drop-drop (sizeOf h) (s .at) text ∙ ap (λ k. drop k text) (sym z)) in
-      record { went = went-on (K .went) (step-went (K .went .few) (cut-inside K l) cut-head b E); run = omega (arith, K .run, run-drop (sizeOf h) t n) }
+      let d : drop (sizeOf h) t ≡ drop (s′ .at) text = drop-drop (sizeOf h) (s .at) text ∙ ap (λ k. drop k text) (sym z) in
+      record {
+        went = went-on (K .went) (step-went (K .went .few) (cut-inside K l) cut-head b E);
+        run = omega (arith, K .run, run-drop (sizeOf h) t n, ap runEnd d);
+      }
 
 -- the scan is done: the tokens in the arrays are all
-pub went-end : (text : List ℕ) (s : Scan) (R₀ R : List Token) → Went text (scan 0 0 0) s R₀ R → length text ≤ s .at → s .count ≤ length R → Written (lex 0 [] 0 text) (s .count) R₀ R
+pub went-end : (text : List ℕ) (s : Scan) (R₀ R : List Token) → Went text (scan 0 0 0) s R₀ R → length text ≤ s .at → s .count ≤ length R
+    → Written (lex 0 [] 0 text) (s .count) R₀ R
 unfolding lex
 went-end text s R₀ R W l b =
     let e : take (s .count) R ≡ lex 0 [] 0 text =

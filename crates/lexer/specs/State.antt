@@ -19,10 +19,17 @@ use Rattle.lexer.specs.declared.Scan.{Scan}
 abbrev pub padded : Word → List ℕ
 padded w = w .text ++ drop (length (w .text)) (48 ∷ 49 ∷ 50 ∷ 51 ∷ 52 ∷ 53 ∷ 54 ∷ 55 ∷ 56 ∷ 57 ∷ [])
 
--- how many letters the longest word of a list has
+-- a word's first letter, and how many it has
+abbrev pub initial : Word → ℕ
+initial w = getD (w .text) 0 0
+
+abbrev pub lettersIn : Word → ℕ
+lettersIn w = length (w .text)
+
+-- how many the longest word of a list has
 abbrev pub mostLetters : List Word → ℕ
 mostLetters [] = 0
-mostLetters (w ∷ ws) = max (length (w .text)) (mostLetters ws)
+mostLetters (w ∷ ws) = max (lettersIn w) (mostLetters ws)
 
 abbrev pub longestWord : ℕ
 longestWord = mostLetters words
@@ -34,7 +41,7 @@ lastEnd text at = min (at + runEnd (drop at text)) (at + longestWord)
 -- the place in a list of the first word of n letters that begins with b; the list's length where there is none
 unfoldable pub placeOf : ℕ → ℕ → List Word → ℕ
 placeOf b n [] = 0
-placeOf b n (w ∷ ws) = cond (eqb (getD (w .text) 0 0) b && eqb (length (w .text)) n) 0 (suc (placeOf b n ws))
+placeOf b n (w ∷ ws) = cond (eqb (initial w) b && eqb (lettersIn w) n) 0 (suc (placeOf b n ws))
 
 -- a place, or another where no word has it
 abbrev pub orPlace : ℕ → ℕ → ℕ
@@ -48,14 +55,15 @@ placeDown b (suc n) = orPlace (placeOf b (suc n) words) (placeDown b n)
 -- for each word of a list that begins at place i, the place of the next one to try: as long and with the same first letter, or shorter
 unfoldable pub nextsFrom : ℕ → List Word → List ℕ
 nextsFrom i [] = []
-nextsFrom i (w ∷ ws) = orPlace (i + 1 + placeOf (getD (w .text) 0 0) (length (w .text)) ws) (placeDown (getD (w .text) 0 0) (length (w .text) - 1)) ∷ nextsFrom (i + 1) ws
+nextsFrom i (w ∷ ws) =
+    orPlace (i + 1 + placeOf (initial w) (lettersIn w) ws) (placeDown (initial w) (lettersIn w - 1)) ∷ nextsFrom (i + 1) ws
 
 abbrev pub nextPlaces : List ℕ
 nextPlaces = nextsFrom 0 words
 
 -- what is kept of a word beside its letters: its length, its type's number and the place of the next word
 abbrev pub info : Word → ℕ → List ℕ
-info w n = length (w .text) ∷ w .kind ∷ n ∷ []
+info w n = lettersIn w ∷ w .kind ∷ n ∷ []
 
 -- the lent tables hold the word list, and a row for each word and its next place
 pub record Tables (ws is : List (List ℕ)) : Type 0 where
@@ -68,9 +76,9 @@ wordAt i = getD words i (word [] 0)
 -- word i, of n letters, begins with the letter that stands at a place of the text
 pub record Candidate (text : List ℕ) (at i n : ℕ) : Type 0 where
   pub listed : i < 55
-  pub size : n ≡ length (wordAt i .text)
+  pub size : n ≡ lettersIn (wordAt i)
   pub place : at < length text
-  pub letter : getD (wordAt i .text) 0 0 ≡ getD text at 0
+  pub letter : initial (wordAt i) ≡ getD text at 0
 
 abbrev pub scan : ℕ → ℕ → ℕ → Scan
 scan a h n = record { at = a; held = h; count = n }

@@ -221,7 +221,8 @@ fn matches(words: &[[u8; 10]; 55], i: usize, n: usize, text: &[u8], at: usize) -
 
 // The same, where only ends up to the last one are tried: no word of the run ends behind it.
 fn stands(words: &[[u8; 10]; 55], i: usize, n: usize, text: &[u8], at: usize, last: usize) -> bool
-    requires { ⌜ (now words ≡ map padded wordList) × Candidate (now text) at i n × (last ≡ lastEnd (now text) at) × (length (now text) ≤ 256) ⌝ }
+    requires { ⌜ (now words ≡ map padded wordList) × Candidate (now text) at i n × (last ≡ lastEnd (now text) at)
+        × (length (now text) ≤ 256) ⌝ }
     ensures { λ r. ⌜ r ≡ begins (wordAt i .text) (drop at (now (text .entry))) ⌝ }
 {
     if last < at + n {

@@ -1,6 +1,7 @@
 -- Each arm by its letter: the longest word that begins with it is found by computation.
 -- Assumes nothing.
-use mathlib.Core.Path.{sym, ap}
+use mathlib.Core.Bool.{false}
+use mathlib.Core.Path.{_≡_, sym, ap}
 use borrow.Author.Tests.{ne-eqb}
 use Rattle.lexer.specs.State.{longestWord, placeDown, placeOf}
 use Rattle.lexer.specs.Words.{words}
@@ -82,7 +83,30 @@ returns-18 c = sym (ap (λ b. placeDown b longestWord) (c .match .keys18))
 
 returns-19 : tie.Need-returns-19
 unfolding words starts
-returns-19 c = sym (no-start _ longestWord (simp (ne-eqb _ _ (λ e. c .match .rest .1 (sym e)), ne-eqb _ _ (λ e. c .match .rest .0 .1 (sym e)), ne-eqb _ _ (λ e. c .match .rest .0 .0 .1 (sym e)), ne-eqb _ _ (λ e. c .match .rest .0 .0 .0 .1 (sym e)), ne-eqb _ _ (λ e. c .match .rest .0 .0 .0 .0 .1 (sym e)), ne-eqb _ _ (λ e. c .match .rest .0 .0 .0 .0 .0 .1 (sym e)), ne-eqb _ _ (λ e. c .match .rest .0 .0 .0 .0 .0 .0 .1 (sym e)), ne-eqb _ _ (λ e. c .match .rest .0 .0 .0 .0 .0 .0 .0 .1 (sym e)), ne-eqb _ _ (λ e. c .match .rest .0 .0 .0 .0 .0 .0 .0 .0 .1 (sym e)), ne-eqb _ _ (λ e. c .match .rest .0 .0 .0 .0 .0 .0 .0 .0 .0 .1 (sym e)), ne-eqb _ _ (λ e. c .match .rest .0 .0 .0 .0 .0 .0 .0 .0 .0 .0 .1 (sym e)), ne-eqb _ _ (λ e. c .match .rest .0 .0 .0 .0 .0 .0 .0 .0 .0 .0 .0 .1 (sym e)), ne-eqb _ _ (λ e. c .match .rest .0 .0 .0 .0 .0 .0 .0 .0 .0 .0 .0 .0 .1 (sym e)), ne-eqb _ _ (λ e. c .match .rest .0 .0 .0 .0 .0 .0 .0 .0 .0 .0 .0 .0 .0 .1 (sym e)), ne-eqb _ _ (λ e. c .match .rest .0 .0 .0 .0 .0 .0 .0 .0 .0 .0 .0 .0 .0 .0 .1 (sym e)), ne-eqb _ _ (λ e. c .match .rest .0 .0 .0 .0 .0 .0 .0 .0 .0 .0 .0 .0 .0 .0 .0 .1 (sym e)), ne-eqb _ _ (λ e. c .match .rest .0 .0 .0 .0 .0 .0 .0 .0 .0 .0 .0 .0 .0 .0 .0 .0 .1 (sym e)), ne-eqb _ _ (λ e. c .match .rest .0 .0 .0 .0 .0 .0 .0 .0 .0 .0 .0 .0 .0 .0 .0 .0 .0 .1 (sym e)))))
+returns-19 c =
+    let r = c .match .rest in
+    let e : starts (c .before .args .b) words ≡ false =
+    simp (
+      ne-eqb _ _ (λ e. r .1 (sym e)),
+      ne-eqb _ _ (λ e. r .0 .1 (sym e)),
+      ne-eqb _ _ (λ e. r .0 .0 .1 (sym e)),
+      ne-eqb _ _ (λ e. r .0 .0 .0 .1 (sym e)),
+      ne-eqb _ _ (λ e. r .0 .0 .0 .0 .1 (sym e)),
+      ne-eqb _ _ (λ e. r .0 .0 .0 .0 .0 .1 (sym e)),
+      ne-eqb _ _ (λ e. r .0 .0 .0 .0 .0 .0 .1 (sym e)),
+      ne-eqb _ _ (λ e. r .0 .0 .0 .0 .0 .0 .0 .1 (sym e)),
+      ne-eqb _ _ (λ e. r .0 .0 .0 .0 .0 .0 .0 .0 .1 (sym e)),
+      ne-eqb _ _ (λ e. r .0 .0 .0 .0 .0 .0 .0 .0 .0 .1 (sym e)),
+      ne-eqb _ _ (λ e. r .0 .0 .0 .0 .0 .0 .0 .0 .0 .0 .1 (sym e)),
+      ne-eqb _ _ (λ e. r .0 .0 .0 .0 .0 .0 .0 .0 .0 .0 .0 .1 (sym e)),
+      ne-eqb _ _ (λ e. r .0 .0 .0 .0 .0 .0 .0 .0 .0 .0 .0 .0 .1 (sym e)),
+      ne-eqb _ _ (λ e. r .0 .0 .0 .0 .0 .0 .0 .0 .0 .0 .0 .0 .0 .1 (sym e)),
+      ne-eqb _ _ (λ e. r .0 .0 .0 .0 .0 .0 .0 .0 .0 .0 .0 .0 .0 .0 .1 (sym e)),
+      ne-eqb _ _ (λ e. r .0 .0 .0 .0 .0 .0 .0 .0 .0 .0 .0 .0 .0 .0 .0 .1 (sym e)),
+      ne-eqb _ _ (λ e. r .0 .0 .0 .0 .0 .0 .0 .0 .0 .0 .0 .0 .0 .0 .0 .0 .1 (sym e)),
+      ne-eqb _ _ (λ e. r .0 .0 .0 .0 .0 .0 .0 .0 .0 .0 .0 .0 .0 .0 .0 .0 .0 .1 (sym e)),
+    ) in
+    sym (no-start _ longestWord e)
 
 pub first-word-spec : {M : Type 1} → statement M
 first-word-spec =

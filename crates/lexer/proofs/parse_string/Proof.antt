@@ -15,7 +15,8 @@ use Rattle.token.proofs.Rows.{rows-room}
 
 abbrev Inv-loop : tie.InvT-loop
 Inv-loop words infos text kinds₀ poss₀ lens₀ end s₀ kinds poss lens s =
-    Cutting text end s₀ s (rows kinds₀ poss₀ lens₀) (rows kinds poss lens) × (length kinds ≡ length kinds₀) × (length poss ≡ length poss₀) × (length lens ≡ length lens₀)
+    Cutting text end s₀ s (rows kinds₀ poss₀ lens₀) (rows kinds poss lens)
+    × (length kinds ≡ length kinds₀) × (length poss ≡ length poss₀) × (length lens ≡ length lens₀)
 
 abbrev μ-loop : tie.MeasureT-loop
 μ-loop words infos text kinds₀ poss₀ lens₀ end s₀ kinds poss lens s = end - s .at
@@ -27,42 +28,53 @@ loop-holds c =
 
 word-by-ends-requires : tie.Need-word-by-ends-requires Inv-loop μ-loop
 word-by-ends-requires c κs =
-    let p = c .before .before .before .before .before .before .before .pre in
+    let start = c .before .before .before .before .before .before .before in
     let i = c .before .before .loop .inv .0 in
-    (p .0, cut-inside i (c .if1 .taken), p .1 .short, i .run)
+    (start .pre .0, cut-inside i (c .if1 .taken), start .pre .1 .short, i .run)
 
 word-head-requires : tie.Need-word-head-requires Inv-loop μ-loop
 word-head-requires c κs = search needs
 
 emit-requires : tie.Need-emit-requires Inv-loop μ-loop
 emit-requires c κs =
-    let p = c .before .before .before .before .before .before .before .before .before .before .before .before .pre in
-    let i = c .before .before .before .before .before .before .before .loop .inv in
+    let cut = c .before .before .before in
+    let turn = cut .before .before .before .before in
+    let p = turn .before .before .before .before .before .pre .1 in
+    let i = turn .loop .inv in
     let f = i .0 .went .few in
-    let l = c .before .before .before .before .before .if1 .taken in
-    let e = c .before .before .before .word-head .ensures ∙ ap wordHead (c .before .before .before .before .word-by-ends .ensures) in
+    let l = cut .before .before .if1 .taken in
+    let e = cut .word-head .ensures ∙ ap wordHead (cut .before .word-by-ends .ensures) in
     let n = cut-inside (i .0) l in
-    let w = step-head f n (cut-head (i .0) l e) in
-    (omega (arith, w .1, p .1 .short), f .among, omega (arith, f .some, f .within, p .1 .short), omega (arith, f .some, n, i .1, i .2, i .3, p .1 .room))
+    let w = step-head f n (cut-head (i .0) l e) in (
+      omega (arith, w .1, p .short),
+      f .among,
+      omega (arith, f .some, f .within, p .short),
+      omega (arith, f .some, n, i .1, i .2, i .3, p .room),
+    )
 
 loop-less : tie.Need-loop-less Inv-loop μ-loop
 loop-less c =
-    let i = c .before .before .before .before .before .before .before .before .before .before .before .before .before .before .loop .inv in
-    let l = c .before .before .before .before .before .before .before .before .before .before .before .before .if1 .taken in
-    let e = c .before .before .before .before .before .before .before .before .before .before .word-head .ensures ∙ ap wordHead (c .before .before .before .before .before .before .before .before .before .before .before .word-by-ends .ensures) in
-    let h = cut-head (i .0) l e in
-    let n = cut-inside (i .0) l in
-    omega (arith, l, step-place (i .0 .went .few) n h (c .before .before .before .before .before .before .emit .ensures), step-head (i .0 .went .few) n h .0)
+    let emitted = c .before .before .before .before .before .before in
+    let cut = emitted .before .before .before .before in
+    let i = cut .before .before .before .before .loop .inv .0 in
+    let l = cut .before .before .if1 .taken in
+    let h = cut-head i l (cut .word-head .ensures ∙ ap wordHead (cut .before .word-by-ends .ensures)) in
+    let n = cut-inside i l in
+    omega (arith, l, step-place (i .went .few) n h (emitted .emit .ensures), step-head (i .went .few) n h .0)
 
 loop-again : tie.Need-loop-again Inv-loop μ-loop
 loop-again c =
-    let p = c .before .before .before .before .before .before .before .before .before .before .before .before .before .before .before .before .before .before .before .pre in
-    let i = c .before .before .before .before .before .before .before .before .before .before .before .before .before .before .loop .inv in
+    let emitted = c .before .before .before .before .before .before in
+    let cut = emitted .before .before .before .before in
+    let turn = cut .before .before .before .before in
+    let i = turn .loop .inv in
     let f = i .0 .went .few in
-    let l = c .before .before .before .before .before .before .before .before .before .before .before .before .if1 .taken in
-    let e = c .before .before .before .before .before .before .before .before .before .before .word-head .ensures ∙ ap wordHead (c .before .before .before .before .before .before .before .before .before .before .before .word-by-ends .ensures) in
+    let l = cut .before .before .if1 .taken in
+    let e = cut .word-head .ensures ∙ ap wordHead (cut .before .word-by-ends .ensures) in
     let n = cut-inside (i .0) l in
-    (cut-step (i .0) l e (rows-room _ _ _ _ (omega (arith, f .some, n, i .1, i .2, i .3, p .1 .room))) (c .before .before .before .before .before .before .emit .ensures), omega arith, omega arith, omega arith)
+    let r = turn .before .before .before .before .before .pre .1 .room in
+    let w = cut-step (i .0) l e (rows-room _ _ _ _ (omega (arith, f .some, n, i .1, i .2, i .3, r))) (emitted .emit .ensures) in
+    (w, omega arith, omega arith, omega arith)
 
 same-length : tie.Need-same-length Inv-loop μ-loop
 same-length c = search needs

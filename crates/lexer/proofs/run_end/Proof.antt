@@ -45,7 +45,8 @@ loop-again : tie.Need-loop-again Inv-loop μ-loop
 loop-again c =
     let a = c .before .before .before .before .before .before .args in
     let e = sym (c .before .is-letter .ensures) ∙ not-false _ (c .if1 .left) in
-    (omega arith, omega (arith, run-turn (a .text .now) (c .before .before .before .before .loop .end) (c .before .before .before .loop-test .taken) e))
+    let t = run-turn (a .text .now) (c .before .before .before .before .loop .end) (c .before .before .before .loop-test .taken) e in
+    (omega arith, omega (arith, t))
 
 returns-2 : tie.Need-returns-2 Inv-loop μ-loop
 returns-2 c = omega (arith, run-done (c .before .before .before .args .text .now) (c .before .loop .end) (c .loop-test .left))

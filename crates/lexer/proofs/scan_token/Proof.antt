@@ -32,8 +32,12 @@ emit-requires : tie.Need-emit-requires
 emit-requires c κs =
     let p = c .before .before .before .before .before .before .before .before .before .before .pre in
     let f = p .1 .few in
-    let w = step-head f (p .2) (c .head-at .ensures) in
-    (omega (arith, w .1, p .1 .short), f .among, omega (arith, f .some, f .within, p .1 .short), omega (arith, f .some, p .2, p .1 .room))
+    let w = step-head f (p .2) (c .head-at .ensures) in (
+      omega (arith, w .1, p .1 .short),
+      f .among,
+      omega (arith, f .some, f .within, p .1 .short),
+      omega (arith, f .some, p .2, p .1 .room),
+    )
 
 same-length-4 : tie.Need-same-length-4
 same-length-4 c = search needs
@@ -46,10 +50,11 @@ same-length-6 c = search needs
 
 returns-2 : tie.Need-returns-2
 returns-2 c =
-    let p = c .before .before .before .before .before .before .before .before .before .before .before .before .before .before .before .before .before .pre in
+    let emitted = c .before .before .before .before .before .before in
+    let p = emitted .before .before .before .before .before .before .before .before .before .before .before .pre in
     let f = p .1 .few in
-    let h = c .before .before .before .before .before .before .before .head-at .ensures in
-    let e = c .before .before .before .before .before .before .emit .ensures in (
+    let h = emitted .before .head-at .ensures in
+    let e = emitted .emit .ensures in (
       step-went f (p .2) h (rows-room _ _ _ _ (omega (arith, f .some, p .2, p .1 .room))) e,
       omega (arith, step-place f (p .2) h e, step-head f (p .2) h .0),
     )

@@ -4,7 +4,6 @@ use mathlib.Core.List.{List}
 use mathlib.Core.Path.{_≡_, sym, ap, ap₂, _∙_}
 use Prim.Native.Nat.{ℕ, _+_, min}
 use native.Mathlib.Nat.{add-zero}
-use native.Mathlib.Omega.{arith}
 use lib.ListN.{getD, drop}
 use lib.Seq.{getD-drop}
 use borrow.Author.Needs.{needs}
@@ -47,24 +46,29 @@ wide-requires c κs = search needs
 
 stands-requires : tie.Need-stands-requires Inv-loop μ-loop
 stands-requires c κs =
-    let a = c .before .before .before .before .before .before .before .before .args in
-    let p = c .before .before .before .before .before .before .before .before .pre in
-    let i = c .before .before .before .loop .i in
+    let turn = c .before .before .before in
+    let start = turn .before .before .before .before .before in
+    let a = start .args in
+    let p = start .pre in
     let h = c .before .before .loop-test .taken in
-    let n = c .wide .ensures .0 ∙ c .before .info .ensures ∙ info-is i h (p .0) 0 in
-    (p .0 .texts, record { listed = h; size = n; place = p .1; letter = c .before .before .before .loop .inv .letter h ∙ first (a .text .now) (a .at) }, c .before .before .before .before .before .before .last-end .ensures ∙ ap (λ (e : ℕ). min e (a .at + longestWord)) (p .3), p .2)
+    let n = c .wide .ensures .0 ∙ c .before .info .ensures ∙ info-is (turn .loop .i) h (p .0) 0 in
+    let l = turn .loop .inv .letter h ∙ first (a .text .now) (a .at) in
+    let e = turn .before .before .before .last-end .ensures ∙ ap (λ (e : ℕ). min e (a .at + longestWord)) (p .3) in
+    (p .0 .texts, record { listed = h; size = n; place = p .1; letter = l }, e, p .2)
 
 info-requires-2 : tie.Need-info-requires-2 Inv-loop μ-loop
 info-requires-2 c κs = search needs
 
 returns : tie.Need-returns Inv-loop μ-loop
 returns c =
-    let p = c .before .before .before .before .before .before .before .before .before .before .before .pre in
-    let i = c .before .before .before .before .before .before .loop .i in
-    let h = c .before .before .before .before .before .loop-test .taken in
-    let n = c .before .before .before .wide .ensures .0 ∙ c .before .before .before .before .info .ensures ∙ info-is i h (p .0) 0 in
-    let k = c .info2 .ensures ∙ info-is i h (p .0) 1 in
-    ap₂ match n k ∙ chosen-hit _ i (c .before .before .before .before .before .before .loop .inv) h (sym (c .before .before .stands .ensures) ∙ c .before .if1 .taken)
+    let asked = c .before .before in
+    let turn = asked .before .before .before .before in
+    let t = turn .before .before .before .before .before .pre .0 in
+    let i = turn .loop .i in
+    let h = asked .before .before .before .loop-test .taken in
+    let n = asked .before .wide .ensures .0 ∙ asked .before .before .info .ensures ∙ info-is i h t 0 in
+    let k = c .info2 .ensures ∙ info-is i h t 1 in
+    ap₂ match n k ∙ chosen-hit _ i (turn .loop .inv) h (sym (asked .stands .ensures) ∙ c .before .if1 .taken)
 
 info-requires-3 : tie.Need-info-requires-3 Inv-loop μ-loop
 info-requires-3 c κs = search needs
@@ -74,17 +78,21 @@ wide-requires-2 c κs = search needs
 
 loop-less : tie.Need-loop-less Inv-loop μ-loop
 loop-less c =
-    let i = c .before .before .before .before .before .before .before .loop .i in
-    let h = c .before .before .before .before .before .before .loop-test .taken in
-    let e = c .wide2 .ensures .0 ∙ c .before .info3 .ensures ∙ info-is i h (c .before .before .before .before .before .before .before .before .before .before .before .before .pre .0) 2 in
-    rw e (chosen-falls _ i (c .before .before .before .before .before .before .before .loop .inv) h)
+    let asked = c .before .before .before in
+    let turn = asked .before .before .before .before in
+    let i = turn .loop .i in
+    let h = asked .before .before .before .loop-test .taken in
+    let e = c .wide2 .ensures .0 ∙ c .before .info3 .ensures ∙ info-is i h (turn .before .before .before .before .before .pre .0) 2 in
+    rw e (chosen-falls _ i (turn .loop .inv) h)
 
 loop-again : tie.Need-loop-again Inv-loop μ-loop
 loop-again c =
-    let i = c .before .before .before .before .before .before .before .loop .i in
-    let h = c .before .before .before .before .before .before .loop-test .taken in
-    let e = c .wide2 .ensures .0 ∙ c .before .info3 .ensures ∙ info-is i h (c .before .before .before .before .before .before .before .before .before .before .before .before .pre .0) 2 in
-    rw e (chosen-step _ i (c .before .before .before .before .before .before .before .loop .inv) h (sym (c .before .before .before .stands .ensures) ∙ c .before .before .if1 .left))
+    let asked = c .before .before .before in
+    let turn = asked .before .before .before .before in
+    let i = turn .loop .i in
+    let h = asked .before .before .before .loop-test .taken in
+    let e = c .wide2 .ensures .0 ∙ c .before .info3 .ensures ∙ info-is i h (turn .before .before .before .before .before .pre .0) 2 in
+    rw e (chosen-step _ i (turn .loop .inv) h (sym (asked .stands .ensures) ∙ c .before .before .if1 .left))
 
 returns-2 : tie.Need-returns-2 Inv-loop μ-loop
 returns-2 c = chosen-end _ _ (c .before .loop .inv) (c .loop-test .left)
