@@ -592,8 +592,9 @@ fn scan_token(
         (rows (now (kinds .exit)) (now (poss .exit)) (now (lens .exit))) × (s .at < r .at) ⌝ }
 {
     let at = s.at;
-    let end = run_end(text, at);
-    if at < end {
+    let b = text[at];
+    if is_letter(b as u32) {
+        let end = run_end(text, at + 1);
         return parse_string(words, infos, text, kinds, poss, lens, s, end);
     }
     emit(kinds, poss, lens, head_at(text, at), s)
