@@ -14,7 +14,7 @@ use lib.Seq.{drop-cons, drop-drop, getD-drop}
 use borrow.Author.Tests.{lt-ltb, le-ltb, eq-eqb, ne-eqb, eqb-true, ltb-true, ltb-false}
 use Rattle.utf8.specs.Utf8.{begins}
 use Rattle.lexer.specs.State.{initial, lettersIn, longestWord, placeOf, orPlace, placeDown, nextsFrom, nextPlaces, wordAt}
-use Rattle.lexer.specs.Words.{Word, word, words, match, noMatch, runEnd, wordTo, orElse, byEnds, wordByEnds}
+use Rattle.lexer.specs.Words.{Word, word, words, match, noMatch, runEnd, wordTo, orShorter, byEnds, wordByEnds}
 use Rattle.lexer.specs.declared.Match.{Match}
 use Rattle.lexer.proofs.Runs.{begins-fits, ends-limited, word-fits, words-count}
 
@@ -67,11 +67,11 @@ skipped-all n i s h = rw (drop-of-length-le words h)
 
 -- what the words from place i on give: those of n letters, and then the ends before
 abbrev from : List ℕ → ℕ → ℕ → Match
-from s i n = orElse (wordTo (drop i words) (suc n) s) (byEnds words n s)
+from s i n = orShorter (wordTo (drop i words) (suc n) s) (byEnds words n s)
 
 -- what trying from the word at place i on finds
 abbrev tried : List ℕ → ℕ → Match
-tried s i = orElse (wordTo (drop i words) (lettersIn (wordAt i)) s) (byEnds words (lettersIn (wordAt i) - 1) s)
+tried s i = orShorter (wordTo (drop i words) (lettersIn (wordAt i)) s) (byEnds words (lettersIn (wordAt i) - 1) s)
 
 abbrev found : List ℕ → ℕ → Match
 found s i = cond (ltb i (length words)) (tried s i) noMatch
@@ -79,7 +79,7 @@ found s i = cond (ltb i (length words)) (tried s i) noMatch
 tried-at : (s : List ℕ) (i n : ℕ) → lettersIn (wordAt i) ≡ suc n → tried s i ≡ from s i n
 tried-at s i n e =
     let f : lettersIn (wordAt i) - 1 ≡ n = omega arith in
-    ap₂ (λ (k m : ℕ). orElse (wordTo (drop i words) k s) (byEnds words m s)) e f
+    ap₂ (λ (k m : ℕ). orShorter (wordTo (drop i words) k s) (byEnds words m s)) e f
 
 -- place i, if a word has it, and else place j, from which the ends before are found
 from-place : (s : List ℕ) (n i : ℕ) → (i < length words → lettersIn (wordAt i) ≡ suc n) → (j : ℕ) → byEnds words n s ≡ found s j
@@ -96,7 +96,7 @@ unfolding byEnds placeDown
 down zero s = rw (le-ltb (length words) (length words) (omega arith))
 down (suc n) s =
     let b = getD s 0 0 in
-    ap (λ (m : Match). orElse m (byEnds words n s)) (skip (suc n) words s (omega arith))
+    ap (λ (m : Match). orShorter m (byEnds words n s)) (skip (suc n) words s (omega arith))
     ∙ from-place s n (placeOf b (suc n) words) (place-at b (suc n) words .size) (placeDown b n) (down n s)
 
 -- the place of a word of at most n letters that begins with b, if a word has it
@@ -177,7 +177,7 @@ module _ (i n b : ℕ) (h : i < 55) (size : lettersIn (wordAt i) ≡ suc n) (let
         short = λ k. omega (arith, after-size k);
       }
 
-  tried-turn : (s : List ℕ) → tried s i ≡ orElse
+  tried-turn : (s : List ℕ) → tried s i ≡ orShorter
       (cond (begins (wordAt i .text) s) (match (suc n) (wordAt i .kind)) (wordTo (drop (i + 1) words) (suc n) s))
       (byEnds words n s)
   unfolding wordTo

@@ -12,7 +12,7 @@ use lib.Dec.{T, eqb, ltb, leb}
 use lib.ListN.{length}
 use borrow.Author.Tests.{lt-ltb, le-ltb, le-leb, lt-leb, ne-eqb, eqb-true, eqb-false, ltb-true, ltb-false, leb-true, leb-false}
 use Rattle.utf8.specs.Utf8.{begins}
-use Rattle.lexer.specs.Words.{Word, words, match, noMatch, wordTo, orElse, byEnds, wordByEnds}
+use Rattle.lexer.specs.Words.{Word, words, match, noMatch, wordTo, orShorter, byEnds, wordByEnds}
 use Rattle.lexer.specs.declared.Match.{Match}
 use Rattle.lexer.proofs.Runs.{fits, fits-first, fits-rest, words-fit, word-len, ends-within, ends-limited}
 
@@ -75,7 +75,7 @@ module _ (w : Word) (ws : List Word) (s : List ℕ) where
       -- the word ends here, or before
       go : (x : Bool) → eqb (length (w .text)) (suc n) ≡ x
           → (length (w .text) ≤ n → byEnds (w ∷ ws) n s ≡ orLonger w (byEnds ws n s))
-          → orElse (cond (x && begins (w .text) s) (match (suc n) (w .kind)) (wordTo ws (suc n) s)) (byEnds (w ∷ ws) n s)
+          → orShorter (cond (x && begins (w .text) s) (match (suc n) (w .kind)) (wordTo ws (suc n) s)) (byEnds (w ∷ ws) n s)
           ≡ orLonger w (byEnds ws (suc n) s)
       go true e ih =
           let q = eqb-true (length (w .text)) (suc n) e in

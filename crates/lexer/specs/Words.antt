@@ -70,14 +70,14 @@ unfoldable pub wordTo : List Word → ℕ → List ℕ → Match
 wordTo [] end s = noMatch
 wordTo (w ∷ ws) end s = cond (eqb (length (w .text)) end && begins (w .text) s) (match end (w .kind)) (wordTo ws end s)
 
--- m, or n where m is none
-abbrev pub orElse : Match → Match → Match
-orElse m n = cond (eqb (m .len) 0) n m
+-- m, or what a shorter end gives where m is none
+abbrev pub orShorter : Match → Match → Match
+orShorter m n = cond (eqb (m .len) 0) n m
 
 -- the word found by trying one end after the other, from this one down
 unfoldable pub byEnds : List Word → ℕ → List ℕ → Match
 byEnds ws zero s = noMatch
-byEnds ws (suc end) s = orElse (wordTo ws (suc end) s) (byEnds ws end s)
+byEnds ws (suc end) s = orShorter (wordTo ws (suc end) s) (byEnds ws end s)
 
 -- "A letter run is cut by longest word from the left": every end of the run is tried, the longest first.
 abbrev pub wordByEnds : List ℕ → Match
