@@ -19,11 +19,11 @@ use Rattle.utf8.specs.Utf8.{begins}
 use Rattle.lexer.specs.State.{wordAt}
 use Rattle.lexer.specs.Words.{Word, word, words, match, noMatch, isLetter, runEnd, wordTo, byEnds, wordByEnds}
 
-pub run-none : (b : ℕ) (s : List ℕ) → isLetter b ≡ false → runEnd (b ∷ s) ≡ 0
+run-none : (b : ℕ) (s : List ℕ) → isLetter b ≡ false → runEnd (b ∷ s) ≡ 0
 unfolding runEnd
 run-none b s e = rw e
 
-pub run-more : (b : ℕ) (s : List ℕ) → isLetter b ≡ true → runEnd (b ∷ s) ≡ suc (runEnd s)
+run-more : (b : ℕ) (s : List ℕ) → isLetter b ≡ true → runEnd (b ∷ s) ≡ suc (runEnd s)
 unfolding runEnd
 run-more b s e = rw e
 
