@@ -1,5 +1,5 @@
--- What a text begins with: a letter and a digit go by one byte, since each is a byte below 128 and a character that begins with another byte
--- is 128 or more; a letter begins a run, whose word is the head; and how many bytes a head has.
+-- What a text begins with: a letter and a digit go by one byte, since each is a byte below 128 and a character that begins with another
+-- byte is 128 or more; a letter begins a run, whose word is the head; and how many bytes a head has.
 -- Assumes nothing.
 use mathlib.Core.Bool.{Bool, true, false, cond}
 use mathlib.Core.List.{List, [], _∷_, _++_}
