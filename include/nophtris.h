@@ -31,7 +31,7 @@ extern "C" {
 
 /* The first number grows when a function or the struct changes its form, the second with a new function and with any other change of an answer. */
 #define NOPHTRIS_VERSION_MAJOR 1
-#define NOPHTRIS_VERSION_MINOR 1
+#define NOPHTRIS_VERSION_MINOR 2
 
 /* The answers. */
 #define NOPHTRIS_ACCEPTED 0     /* read: the struct is filled; written: the spelling stands in the buffer */
@@ -58,7 +58,8 @@ extern "C" {
 #define NOPHTRIS_DUPLICATE_MODIFIER 3                 /* what is repeated: power 0, alt 1, bass 2, minor 3, dim7 4, dim 5, half dim 6, sus 7, maj 8, Maj7 9, aug 12 */
 #define NOPHTRIS_INCONSISTENT_EXTENSION 4             /* interval */
 #define NOPHTRIS_DUPLICATE_EXTENSION 5                /* position */
-#define NOPHTRIS_INVALID_EXTENSION 6                  /* position; of a sign before a wrong number one more than the sign's own */
+#define NOPHTRIS_INVALID_EXTENSION 6                  /* position; of a sign before a wrong number one more than the sign's own (inside the
+                                                         number where that is raised) */
 #define NOPHTRIS_WRONG_EXPRESSION_TARGET 7            /* position */
 #define NOPHTRIS_UNEXPECTED_MODIFIER 8                /* position */
 #define NOPHTRIS_MISSING_ROOT_NOTE 9                  /* nothing */
@@ -96,9 +97,10 @@ _Static_assert(sizeof(nophtris_chord) == 51, "a chord record is 51 bytes without
 typedef char nophtris_chord_is_51_bytes[sizeof(nophtris_chord) == 51 ? 1 : -1];
 #endif
 
-/* Reads a text of any bytes and any length. The questions are asked in this order:
+/* Reads a text of any bytes and any length. Since version 1.2 the raised numerals U+00B9, U+00B2, U+00B3, U+2070 and U+2074 to U+2079
+ * count as their digits. The questions are asked in this order:
  *   1  NOPHTRIS_SHORT_LIST   the error list holds fewer than 1,028 numbers;
- *   2  NOPHTRIS_LONG_TEXT    the text has more than 256 bytes;
+ *   2  NOPHTRIS_LONG_TEXT    the text has more than 256 bytes (a raised numeral has two or three);
  *   3  NOPHTRIS_NOT_UTF8     it is not UTF-8;
  *   4  NOPHTRIS_PARSE        parsing found errors; 5  NOPHTRIS_VALIDATION  validation did: `count` of them, 1 to 257, four numbers for each from the
  *                            beginning of the list on;

@@ -1,8 +1,13 @@
 //! The comparer: holds our output against the oracle's, line by line, by the rules of document 01.
 //!
 //! `compare TEXTS OURS ORACLE [MODE]`. In the listing, kind 3 is compared by the text of its priority, and any repeated
-//! one is accepted (the oracle names them in `listing repeats`). Texts with numerals that are not ASCII are left out.
+//! one is accepted (the oracle names them in `listing repeats`). Texts with numerals that are neither ASCII nor raised are
+//! left out.
 //! Everything else must be equal byte for byte. Exit status 1 where there is a difference, 2 where there is no comparison.
+/// Which numerals are raised; the mapping is the oracle's.
+#[allow(dead_code)]
+mod raised;
+
 use std::{
     fs::File,
     io::{self, BufRead, BufReader},
@@ -24,7 +29,8 @@ enum Verdict {
     Different,
 }
 
-/// How many texts there were of each sort. Those in `not_least` are also in `equal` or `by_kind_3`.
+/// How many texts there were of each sort. Those in `not_least` are also in `equal` or `by_kind_3`. `raised` counts those with
+/// raised numerals about which the Rust was asked; they are in another count too.
 #[derive(Default)]
 struct Counts {
     texts: usize,
@@ -32,6 +38,7 @@ struct Counts {
     by_kind_3: usize,
     not_least: usize,
     left_out: usize,
+    raised: usize,
     different: usize,
 }
 
@@ -57,13 +64,16 @@ impl Lines {
     }
 }
 
-/// Whether a text lies outside the comparison: the Rust is asked, and it has a numeral that is not an ASCII digit.
+/// The text, where the Rust is asked about it: it answers for no text that is too long or not UTF-8. ASCII texts, which have
+/// no numerals that matter here, are passed over.
+fn asked(text: &[u8]) -> Option<&str> {
+    if text.is_ascii() || text.len() > LONGEST { None } else { std::str::from_utf8(text).ok() }
+}
+
+/// Whether a text lies outside the comparison: the Rust is asked, and it has a numeral that is neither ASCII nor raised.
 fn left_out(text: &[u8]) -> bool {
-    if text.is_ascii() || text.len() > LONGEST {
-        return false;
-    }
-    let numeral = |c: char| c.is_numeric() && !c.is_ascii_digit();
-    std::str::from_utf8(text).is_ok_and(|text| text.contains(numeral))
+    let numeral = |c: char| c.is_numeric() && !c.is_ascii_digit() && !raised::RAISED.contains(&c);
+    asked(text).is_some_and(|text| text.contains(numeral))
 }
 
 /// The oracle's line and, where it names them, the priorities of the repeated expressions.
@@ -175,6 +185,7 @@ fn run(texts: &str, ours: &str, oracle: &str, listing: bool) -> io::Result<Count
             counts.left_out += 1;
             continue;
         }
+        counts.raised += usize::from(asked(text).is_some_and(raised::has_raised));
         // A line that is missing is a difference.
         let (verdict, not_least) = match (ours, oracle) {
             (Some(ours), Some(oracle)) => compare(listing, ours, oracle),
@@ -208,10 +219,10 @@ fn main() -> ExitCode {
         }
     };
     match run(texts, ours, oracle, listing) {
-        Ok(Counts { texts, equal, by_kind_3, not_least, left_out, different }) => {
+        Ok(Counts { texts, equal, by_kind_3, not_least, left_out, raised, different }) => {
             println!(
                 "texts {texts} equal {equal} equal-by-kind-3 {by_kind_3} not-least {not_least} left-out {left_out} \
-                 different {different}"
+                 raised {raised} different {different}"
             );
             ExitCode::from(u8::from(different > 0))
         }

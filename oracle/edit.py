@@ -32,6 +32,8 @@ EDITS = [
      {'chord/interval.rs': 2, 'chord/quality.rs': 1}),
     ('evaluate: stop after validate', r'(?<=\.validate\(\)\n        )\.build_chord\(\)', '.stop()',
      {'parsing/evaluator.rs': 1}),
+    ('kind 6: of a sign', r'(?<=InvalidExtension\()token\.pos \+ 1(?=\))', 'token.pos + 1 + tap::PAST_SIGN',
+     {'parsing/mod.rs': 1}),
     ('kind 3: priority', r'Exp::from_priority\(key\)(?=\.to_string\(\))', 'key',
      {'parsing/validator.rs': 1}),
     ('kind 10: interval numbers', r'(?<=", )(intervals\[[iab]\]\.unwrap\(\))', r'*\1 as u8',

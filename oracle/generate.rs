@@ -28,8 +28,11 @@ const STRANGERS: &[&str] = &[
     "}", "~", "\\", "$", "%", "&", "<", "=", ">", "@",
 ];
 
-/// Numerals that are not ASCII digits: texts with these lie outside the comparison.
+/// Numerals that are not ASCII digits: all but the raised ones put a text outside the comparison.
 const NUMERALS: &[&str] = &["²", "³", "¹", "½", "⁷", "₇", "Ⅶ", "⑦", "７", "٧", "〇", "𝟕"];
+
+/// The raised numerals, by their digits.
+const RAISED: &[&str] = &["⁰", "¹", "²", "³", "⁴", "⁵", "⁶", "⁷", "⁸", "⁹"];
 
 /// The pieces of `short`, one or more for each kind of token, and how many of them a count of 0 goes up to.
 const SHORT: &[&str] = &[
@@ -474,6 +477,38 @@ fn words(random: &mut Random, text: &mut Text) {
     }
 }
 
+/// A text of another class with digits raised, all of them or some, and now and then a raised numeral more. Each text has one.
+fn raised(random: &mut Random, text: &mut Text) {
+    match random.below(8) {
+        0 | 1 => exhaustive(SHORT, random.next() % exhaustive_count(SHORT, SHORT_PIECES), text),
+        2 => brackets(random, text),
+        3 => long(random, text),
+        4 => signs(random, text),
+        5 | 6 => digits(random, text),
+        _ => chords(random, text),
+    }
+    let plain = text.bytes.split_off(text.start);
+    let some = random.once_in(2);
+    let mut none = true;
+    for byte in plain {
+        let raise = byte.is_ascii_digit() && !(some && random.once_in(2));
+        if raise {
+            text.add(RAISED[usize::from(byte - b'0')]);
+        } else {
+            text.bytes.push(byte);
+        }
+        none &= !raise;
+        // Only behind ASCII, where no character can be cut.
+        if byte.is_ascii() && random.once_in(32) {
+            text.add_one(random, RAISED);
+            none = false;
+        }
+    }
+    if none {
+        text.add_one(random, RAISED);
+    }
+}
+
 /// A class of texts: how a text is made of the seed and its number, and how many texts a count of 0 means.
 struct Class {
     name: &'static str,
@@ -492,6 +527,7 @@ const CLASSES: &[Class] = &[
     Class { name: "chords", make: |s, n, t| chords(&mut Random::new(s, n), t), all: || 0 },
     Class { name: "digits", make: |s, n, t| digits(&mut Random::new(s, n), t), all: || 0 },
     Class { name: "words", make: |s, n, t| words(&mut Random::new(s, n), t), all: || 0 },
+    Class { name: "raised", make: |s, n, t| raised(&mut Random::new(s, n), t), all: || 0 },
 ];
 
 /// Writes the texts from number `from` up to `end`.

@@ -5,6 +5,7 @@
 mod bitset;
 mod chord;
 mod parsing;
+mod raised;
 
 /// Stands in for the one module that the Rust names and that is not in its sources. It is never called.
 mod inference {
@@ -27,8 +28,10 @@ use parsing::{
     ast::Ast,
     expression::Exp,
     parser_error::{ParserError, ParserErrors},
+    tap::PAST_SIGN,
     token::{Token, TokenType},
 };
+use raised::Places;
 use std::{
     io::{self, BufRead, Write},
     panic::{self, AssertUnwindSafe},
@@ -62,9 +65,10 @@ fn mode(arguments: &[String]) -> Option<Mode> {
     }
 }
 
-/// The lines to be printed.
+/// The lines to be printed, and where the bytes of the text that the Rust was asked about stand in the text that was read.
 struct Listing {
     bytes: Vec<u8>,
+    places: Places,
 }
 
 impl Listing {
@@ -79,9 +83,14 @@ impl Listing {
         self.bytes.extend_from_slice(&cell);
     }
 
-    /// Adds a size or a position.
+    /// Adds a size.
     fn size(&mut self, size: usize) {
         self.number(size as i64);
+    }
+
+    /// Adds a position of the Rust's, mapped back.
+    fn position(&mut self, position: usize) {
+        self.size(self.places.back(position));
     }
 
     /// Adds a note's letter (C 0 to B 6) and its alteration.
@@ -102,35 +111,38 @@ impl Listing {
     fn errors(&mut self, errors: &[ParserError]) {
         self.size(errors.len());
         for error in errors {
-            for number in error_numbers(error) {
+            for number in error_numbers(error, &self.places) {
                 self.size(number);
             }
         }
     }
 }
 
-/// An error's four numbers: its kind, its values, zeros.
-fn error_numbers(error: &ParserError) -> [usize; 4] {
+/// An error's four numbers: its kind, its values, zeros. Positions are mapped back; the kind 6 of a sign stays one past the
+/// position of the sign's token.
+fn error_numbers(error: &ParserError, places: &Places) -> [usize; 4] {
+    let back = |position: &usize| places.back(*position);
     match error {
-        ParserError::IllegalToken(pos) => [1, *pos, 0, 0],
-        ParserError::UnexpectedNote(pos) => [2, *pos, 0, 0],
+        ParserError::IllegalToken(pos) => [1, back(pos), 0, 0],
+        ParserError::UnexpectedNote(pos) => [2, back(pos), 0, 0],
         ParserError::DuplicateModifier(priority) => [3, decimal(priority), 0, 0],
         ParserError::InconsistentExtension(interval) => [4, *interval as usize, 0, 0],
-        ParserError::DuplicateExtension(pos) => [5, *pos, 0, 0],
-        ParserError::InvalidExtension(pos) => [6, *pos, 0, 0],
-        ParserError::WrongExpressionTarget(pos) => [7, *pos, 0, 0],
-        ParserError::UnexpectedModifier(pos) => [8, *pos, 0, 0],
+        ParserError::DuplicateExtension(pos) => [5, back(pos), 0, 0],
+        ParserError::InvalidExtension(pos) if *pos > PAST_SIGN => [6, back(&(*pos - PAST_SIGN - 1)) + 1, 0, 0],
+        ParserError::InvalidExtension(pos) => [6, back(pos), 0, 0],
+        ParserError::WrongExpressionTarget(pos) => [7, back(pos), 0, 0],
+        ParserError::UnexpectedModifier(pos) => [8, back(pos), 0, 0],
         ParserError::MissingRootNote => [9, 0, 0, 0],
         ParserError::ThreeConsecutiveSemitones(names) => {
             [10, decimal(&names[0]), decimal(&names[1]), decimal(&names[2])]
         }
-        ParserError::MissingAddTarget((pos, len)) => [11, *pos, *len, 0],
-        ParserError::IllegalOrMissingOmitTarget((pos, len)) => [12, *pos, *len, 0],
-        ParserError::IllegalAddTarget((pos, len)) => [13, *pos, *len, 0],
-        ParserError::IllegalSlashNotation(pos) => [14, *pos, 0, 0],
-        ParserError::UnexpectedClosingParenthesis(pos) => [15, *pos, 0, 0],
-        ParserError::MissingClosingParenthesis(pos) => [16, *pos, 0, 0],
-        ParserError::NestedParenthesis(pos) => [17, *pos, 0, 0],
+        ParserError::MissingAddTarget((pos, len)) => [11, back(pos), *len, 0],
+        ParserError::IllegalOrMissingOmitTarget((pos, len)) => [12, back(pos), *len, 0],
+        ParserError::IllegalAddTarget((pos, len)) => [13, back(pos), *len, 0],
+        ParserError::IllegalSlashNotation(pos) => [14, back(pos), 0, 0],
+        ParserError::UnexpectedClosingParenthesis(pos) => [15, back(pos), 0, 0],
+        ParserError::MissingClosingParenthesis(pos) => [16, back(pos), 0, 0],
+        ParserError::NestedParenthesis(pos) => [17, back(pos), 0, 0],
         ParserError::InvalidPowerExpression => [18, 0, 0, 0],
     }
 }
@@ -175,8 +187,9 @@ fn token_numbers(token: &Token) -> (i64, i64) {
     }
 }
 
-/// An expression's kind, in the order of `Exp`, and its two values.
-fn expression_numbers(expression: &Exp) -> [i64; 3] {
+/// An expression's kind, in the order of `Exp`, and its two values; a position is mapped back.
+fn expression_numbers(expression: &Exp, places: &Places) -> [i64; 3] {
+    let back = |position: usize| places.back(position) as i64;
     match expression {
         Exp::Power => [0, 0, 0],
         Exp::Bass => [1, 0, 0],
@@ -189,9 +202,9 @@ fn expression_numbers(expression: &Exp) -> [i64; 3] {
         Exp::Alt => [8, 0, 0],
         Exp::Aug => [9, 0, 0],
         Exp::Sus(sus) => [10, sus.interval as i64, 0],
-        Exp::Extension(extension) => [11, extension.interval as i64, extension.pos as i64],
-        Exp::Add(add) => [12, add.interval as i64, add.target_pos as i64],
-        Exp::Omit(omit) => [13, omit.interval as i64, omit.target_pos as i64],
+        Exp::Extension(extension) => [11, extension.interval as i64, back(extension.pos)],
+        Exp::Add(add) => [12, add.interval as i64, back(add.target_pos)],
+        Exp::Omit(omit) => [13, omit.interval as i64, back(omit.target_pos)],
         Exp::SlashBass(bass) => {
             [14, bass.note.literal as i64, bass.note.modifier.map_or(0, |modifier| modifier.0.into())]
         }
@@ -205,7 +218,7 @@ fn list_tokens(tokens: &[Token], out: &mut Listing) {
         let (kind, value) = token_numbers(token);
         out.number(kind);
         out.number(value);
-        out.size(token.pos);
+        out.position(token.pos);
         out.size(token.len);
     }
 }
@@ -221,7 +234,7 @@ fn list_expressions(ast: &Ast, errors: &[ParserError], out: &mut Listing) {
     }
     out.size(ast.expressions.len());
     for expression in &ast.expressions {
-        for number in expression_numbers(expression) {
+        for number in expression_numbers(expression, &out.places) {
             out.number(number);
         }
     }
@@ -297,14 +310,17 @@ fn show(mode: Mode, parser: &mut Parser, text: &str, out: &mut Listing) {
     }
 }
 
-/// Adds a text's line. The Rust has no limit and takes only UTF-8, so 2 and 3 are answered here.
+/// Adds a text's line. The Rust has no limit and takes only UTF-8, so 2 and 3 are answered here, by the text's own bytes; then
+/// the Rust is asked about the text in plain digits.
 fn answer(mode: Mode, parser: &mut Parser, line: usize, text: &[u8], out: &mut Listing) {
     let start = out.bytes.len();
     out.size(line);
     if text.len() > LONGEST {
         out.number(2);
     } else if let Ok(text) = std::str::from_utf8(text) {
-        let shown = panic::catch_unwind(AssertUnwindSafe(|| show(mode, parser, text, out)));
+        let (text, places) = raised::plain(text);
+        out.places = places;
+        let shown = panic::catch_unwind(AssertUnwindSafe(|| show(mode, parser, &text, out)));
         if shown.is_err() {
             // A parser that has panicked keeps a position inside its text.
             *parser = Parser::new();
@@ -331,7 +347,7 @@ fn next_line(input: &mut impl BufRead, text: &mut Vec<u8>) -> io::Result<bool> {
 fn run(mode: Mode) -> io::Result<()> {
     let mut input = io::BufReader::with_capacity(BLOCK, io::stdin().lock());
     let mut output = io::stdout().lock();
-    let mut out = Listing { bytes: Vec::with_capacity(2 * BLOCK) };
+    let mut out = Listing { bytes: Vec::with_capacity(2 * BLOCK), places: Places::default() };
     let mut parser = Parser::new();
     let mut text = Vec::new();
     let mut line = 0;

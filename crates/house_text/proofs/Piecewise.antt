@@ -16,7 +16,7 @@ use Rattle.expression.specs.declared.expression.Exp.{Exp}
 use Rattle.folding.specs.Folding.{concat, count, dim, is, isMaj, maj, seven, maj7With}
 use Rattle.house_parts.specs.House.{isFlat2, isSecond, isSharp4, isSus, omit3, omit5}
 use Rattle.house_parts.specs.declared.kind.SusKind.{SusKind}
-use Rattle.lexer.specs.Lexer.{headOf, isDigit, lex, signOf}
+use Rattle.lexer.specs.Lexer.{digitOf, headOf, lex, signOf}
 use Rattle.lexer.specs.Text.{ascii}
 use Rattle.lexer.specs.Words.{byEnds, isLetter, runEnd, wordTo, words}
 use Rattle.expression.specs.declared.parser_error.ParserError.{ParserError}
@@ -164,7 +164,7 @@ p and q = (p, q)
 
 -- each piece is good
 pub goods : (n : Set) (k : SusKind) → Goods (pieces n k)
-unfolding headOf isDigit isLetter lex signOf byEnds runEnd wordTo words concat count isMaj lastSix walk typeOf bits charOf encode isScalar
+unfolding headOf digitOf isLetter lex signOf byEnds runEnd wordTo words concat count isMaj lastSix walk typeOf bits charOf encode isScalar
 goods n k =
     record { border = λ r. at-comma _; lexed = λ q. by-border (Apart q (ascii ",b5")) refl (λ r. refl) (λ r. refl); plain = λ q. refl; no-dim = λ q. refl; no-maj = λ q. refl; unsigned = λ q z. (refl, refl); parsed = λ q xs z. once xs _ z }
     and record { border = λ r. at-comma _; lexed = λ q. by-border (Apart q (ascii ",#5")) refl (λ r. refl) (λ r. refl); plain = λ q. refl; no-dim = λ q. refl; no-maj = λ q. refl; unsigned = λ q z. (refl, refl); parsed = λ q xs z. once xs _ z }

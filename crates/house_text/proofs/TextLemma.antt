@@ -25,7 +25,7 @@ use Rattle.folding.proofs.Calm.{calm, unchanged, in-two}
 use Rattle.folding.specs.Folding.{concat, count, dim, dim7, fold7, foldOn, isMaj, join, maj, maj7, preProcess}
 use Rattle.house_parts.specs.House.{given, isSome, noteOrC, spellExps}
 use Rattle.house_parts.specs.declared.kind.SusKind.{SusKind}
-use Rattle.lexer.specs.Lexer.{endOf, headOf, isDigit, lex, signOf, tokensOf}
+use Rattle.lexer.specs.Lexer.{digitOf, endOf, headOf, lex, signOf, tokensOf}
 use Rattle.lexer.specs.Text.{ascii}
 use Rattle.lexer.specs.Words.{byEnds, isLetter, runEnd, wordTo, words}
 use Rattle.expression.specs.declared.parser_error.ParserError.{ParserError}
@@ -183,7 +183,7 @@ heads a f g e d m r p l = record {
 
 -- each head is as asked; where the letter is the last of it, what follows is no sign
 head : (a : RootModifier) (f : Form) (l : NoteLiteral) → Head a f l
-unfolding headOf isDigit isLetter lex signOf byEnds runEnd wordTo words concat count foldOn isMaj join lastSix walk typeOf bits charOf encode isScalar
+unfolding headOf digitOf isLetter lex signOf byEnds runEnd wordTo words concat count foldOn isMaj join lastSix walk typeOf bits charOf encode isScalar
 head Natural plain =
     heads Natural plain refl refl refl refl
     (λ z h. ap (λ (m : RootModifier). row (λ l. Some (record { literal = l; modifier = m }))) (h .1))
@@ -203,7 +203,7 @@ Aparts a f r = row (λ l. lex 0 [] 0 (headText l a f ++ r)) ≡ row (λ l. lex 0
 
 -- and so they are before any border
 heads-apart : (a : RootModifier) (f : Form) (r : List ℕ) → Border r → Aparts a f r
-unfolding headOf isDigit isLetter lex signOf byEnds runEnd wordTo words concat count foldOn isMaj join lastSix walk typeOf bits charOf encode isScalar
+unfolding headOf digitOf isLetter lex signOf byEnds runEnd wordTo words concat count foldOn isMaj join lastSix walk typeOf bits charOf encode isScalar
 heads-apart Natural plain = by-border (Aparts Natural plain) refl (λ r. refl) (λ r. refl)
 heads-apart Natural minor = by-border (Aparts Natural minor) refl (λ r. refl) (λ r. refl)
 heads-apart Natural diminished = by-border (Aparts Natural diminished) refl (λ r. refl) (λ r. refl)
@@ -270,14 +270,14 @@ overs q e a d m s t p l = record {
 
 -- each bass is as asked
 over : (q e : ℕ) (a : RootModifier) (l : NoteLiteral) → Closing (noted a l) q e
-unfolding headOf isDigit isLetter lex signOf byEnds runEnd wordTo words concat count foldOn isMaj join lastSix walk typeOf bits charOf encode isScalar
+unfolding headOf digitOf isLetter lex signOf byEnds runEnd wordTo words concat count foldOn isMaj join lastSix walk typeOf bits charOf encode isScalar
 over q e Natural = overs q e Natural refl refl refl refl (λ xs. refl)
 over q e Sharp = overs q e Sharp refl refl refl refl (λ xs. refl)
 over q e Flat = overs q e Flat refl refl refl refl (λ xs. refl)
 
 -- and so is none
 close : (b : OptionalNote) (q e : ℕ) → Closing b q e
-unfolding headOf isDigit isLetter lex signOf byEnds runEnd wordTo words concat count foldOn isMaj join lastSix walk typeOf bits charOf encode isScalar
+unfolding headOf digitOf isLetter lex signOf byEnds runEnd wordTo words concat count foldOn isMaj join lastSix walk typeOf bits charOf encode isScalar
 close None q e = record { no-dim = refl; no-maj = refl; unsigned = (refl, refl); parses = λ xs. refl }
 close (Some n) q e = over q e (n .modifier) (n .literal)
 

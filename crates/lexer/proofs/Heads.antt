@@ -1,31 +1,26 @@
--- What a text begins with: a letter and a digit go by one byte, since each is a byte below 128 and a character that begins with another
--- byte is 128 or more; a letter begins a run, whose word is the head; and how many bytes a head has.
+-- What a text begins with: a letter goes by one byte, since it is a byte below 128 and a character that begins with another byte is 128 or
+-- more; a letter begins a run, whose word is the head; and how many bytes a head has.
 -- Assumes nothing.
 use mathlib.Core.Bool.{Bool, true, false, cond}
 use mathlib.Core.List.{List, [], _∷_, _++_}
 use mathlib.Core.Path.{_≡_, refl, sym, ap, _∙_, subst}
-use Prim.Native.Nat.{ℕ, suc, _+_, _*_, _-_, _≤_, _<_}
+use Prim.Native.Nat.{ℕ, _+_, _*_, _-_, _≤_, _<_}
 use native.Mathlib.Decide.{decLe}
 use native.Mathlib.Omega.{arith}
 use lib.Dec.{T, eqb, ltb}
 use lib.ListN.{length, getD, drop, length-drop}
-use lib.Seq.{drop-cons}
 use borrow.Author.Tests.{le-leb, lt-leb, lt-ltb, le-ltb, ne-eqb, eqb-false}
 use Rattle.intervals.specs.Interval.{elem}
-use Rattle.utf8.specs.Utf8.{charAt, charOf}
+use Rattle.utf8.specs.Utf8.{charOf}
 use Rattle.utf8.specs.declared.Found.the-variants as utf8
 use Rattle.utf8.specs.declared.Found.{Found}
-use Rattle.lexer.specs.Lexer.{isDigit, digitOf, twoDigits, oneDigit, digitIn, numberHead, numberBy, wordHead, signHead, signOf, headBy, headOf, sizeOf}
+use Rattle.lexer.specs.Lexer.{raisedNumerals, placeIn, isDigit, digitOf, twoDigits, oneDigit, numberBy, wordHead, signHead, signOf, headBy, headOf, sizeOf}
 use Rattle.lexer.specs.Words.{isLetter, runEnd, wordByEnds, words}
 use Rattle.lexer.specs.declared.Head.the-variants as head
 use Rattle.lexer.specs.declared.Head.{Head}
 use Rattle.lexer.specs.declared.Match.{Match}
 use Rattle.lexer.proofs.Runs.{run-within, run-letter, run-other, ends-within}
-use Rattle.utf8.proofs.Laws.{Row, one, two, three, four, row, Encoded, charOf-sound, one-found, found-size, found-within}
-
--- no character from 58 on is a digit
-digit-high : (c : ℕ) → 58 ≤ c → digitOf c ≡ 10
-digit-high c h = rw (le-leb 48 c (omega arith), lt-leb c 57 h)
+use Rattle.utf8.proofs.Laws.{Row, one, two, three, four, row, charOf-sound, one-found, found-size, found-within}
 
 -- a character that begins with a byte from 128 on is 128 or more
 found-high : (s : List ℕ) (c n : ℕ) → charOf s ≡ utf8.Char c n → 128 ≤ getD s 0 0 → 128 ≤ c
@@ -40,28 +35,12 @@ found-high s c n e h = go (row c)
     go (three l g p) = omega arith
     go (four l p) = omega arith
 
-digit-first : (s : List ℕ) → 0 < length s → digitOf (getD s 0 0) ≡ digitIn (charOf s)
-digit-first s l = elim (decLe 128 (getD s 0 0)) [
-  | yes h ↦ digit-high (getD s 0 0) (omega arith) ∙ sym (high (charOf s) refl h)
-  | no h ↦ ap digitIn (sym (one-found s l (omega arith)))
-]
-  where
-    high : (f : Found) → charOf s ≡ f → 128 ≤ getD s 0 0 → digitIn f ≡ 10
-    high (utf8.Char c n) e h = digit-high c (omega (arith, found-high s c n e h))
-    high utf8.Bad e h = refl
-    high utf8.End e h = refl
-
--- the digit that stands at a place, by the byte there
-pub digit-byte : (s : List ℕ) (i : ℕ) → i < length s → digitOf (getD s i 0) ≡ digitIn (charAt s i)
-digit-byte s i l =
-    digit-first (getD s i 0 ∷ drop (suc i) s) (omega arith) ∙ ap (λ (t : List ℕ). digitIn (charOf t)) (sym (drop-cons s i 0 l))
-
 -- no character from 123 on is a letter
-letter-high : (c : ℕ) → 123 ≤ c → isLetter c ≡ false
+pub letter-high : (c : ℕ) → 123 ≤ c → isLetter c ≡ false
 unfolding isLetter
 letter-high c h = rw (le-leb 65 c (omega arith), lt-leb c 90 (omega arith), le-leb 97 c (omega arith), lt-leb c 122 h)
 
-letter-low : (c : ℕ) → isLetter c ≡ true → c < 123
+pub letter-low : (c : ℕ) → isLetter c ≡ true → c < 123
 letter-low c e = elim (decLe 123 c) [ yes h ↦ absurd (subst T (sym e ∙ letter-high c h) tt) | no h ↦ omega arith ]
 
 -- a letter begins a run, and what stands there is the run's word
@@ -88,37 +67,36 @@ word-within s h = go (eqb (wordByEnds s .len) 0)
     go true = h
     go false = ends-within words (runEnd s) s
 
+-- a raised numeral is U+00B2 or above
+pub not-raised : (c : ℕ) → c < 0xB2 → placeIn raisedNumerals c ≡ 10
+not-raised c h =
+    rw (
+      off 0x2070 (omega arith),
+      off 0xB9 (omega arith),
+      off 0xB2 (omega arith),
+      off 0xB3 (omega arith),
+      off 0x2074 (omega arith),
+      off 0x2075 (omega arith),
+      off 0x2076 (omega arith),
+      off 0x2077 (omega arith),
+      off 0x2078 (omega arith),
+      off 0x2079 (omega arith),
+    )
+  where
+    off : (d : ℕ) → 0xB2 ≤ d → eqb c d ≡ false
+    off d l = ne-eqb c d (λ e. omega arith)
+
 -- a digit is below 10, and what is none is 10
 module _ (c : ℕ) {d : ℕ} (e : d ≡ digitOf c) where
   pub is-digit : d < 10 → isDigit c ≡ true
-  unfolding isDigit
   is-digit h = ap (λ x. ltb x 10) (sym e) ∙ lt-ltb d 10 h
 
   pub no-digit : 10 ≤ d → isDigit c ≡ false
-  unfolding isDigit
   no-digit h = ap (λ x. ltb x 10) (sym e) ∙ le-ltb d 10 h
 
--- one digit alone makes no number of two, whatever bytes stand behind it
+-- one digit alone makes no number of two
 lone : (d : ℕ) → elem (10 * d + 10) twoDigits ≡ false
 lone d = rw (ne-eqb (10 * d + 10) 11 (λ e. omega arith), ne-eqb (10 * d + 10) 13 (λ e. omega arith))
-
-lone-head : (d n m k : ℕ) → numberHead d n 10 m ≡ numberHead d n 10 k
-lone-head d n m k = rw (lone d)
-
--- a digit behind the first one has one byte
-pub second-byte : (d n : ℕ) (s : List ℕ) → numberHead d n (digitIn (charOf s)) 1 ≡ numberBy d n (charOf s)
-second-byte d n s = go (charOf s) refl
-  where
-    by : (c m : ℕ) → Encoded s c m → Row c → numberHead d n (digitOf c) 1 ≡ numberHead d n (digitOf c) m
-    by c m f (one l p) = ap (numberHead d n (digitOf c)) (sym (f .size ∙ ap length p))
-    by c m f (two l g p) = rw (digit-high c (omega arith)) (lone-head d n 1 m)
-    by c m f (three l g p) = rw (digit-high c (omega arith)) (lone-head d n 1 m)
-    by c m f (four l p) = rw (digit-high c (omega arith)) (lone-head d n 1 m)
-
-    go : (f : Found) → charOf s ≡ f → numberHead d n (digitIn f) 1 ≡ numberBy d n f
-    go (utf8.Char c m) e = by c m (charOf-sound s c m e) (row c)
-    go utf8.Bad e = lone-head d n 1 0
-    go utf8.End e = lone-head d n 1 0
 
 -- the length of a head's token, 0 for none
 abbrev pub lengthOf : Head → ℕ

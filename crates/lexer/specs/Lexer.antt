@@ -18,11 +18,20 @@ use Rattle.lexer.specs.declared.Match.{Match}
 abbrev pub illegal : ℕ
 illegal = typeNumber Illegal
 
--- the digit that a character is, 0 to 9; 10 for a character that is no digit
-abbrev pub digitOf : ℕ → ℕ
-digitOf c = cond (leb 48 c && leb c 57) (c - 48) 10
+-- "The numerals U+00B9, U+00B2, U+00B3, U+2070 and U+2074 to U+2079 now count as their digits": the ten, by their digits from 0 to 9
+abbrev pub raisedNumerals : List ℕ
+raisedNumerals = 0x2070 ∷ 0xB9 ∷ 0xB2 ∷ 0xB3 ∷ 0x2074 ∷ 0x2075 ∷ 0x2076 ∷ 0x2077 ∷ 0x2078 ∷ 0x2079 ∷ []
 
-unfoldable pub isDigit : ℕ → Bool
+-- the place of a character in a list; the list's length where it does not stand there
+abbrev pub placeIn : List ℕ → ℕ → ℕ
+placeIn [] c = 0
+placeIn (d ∷ ds) c = cond (eqb c d) 0 (suc (placeIn ds c))
+
+-- the digit that a character is, plain or raised, 0 to 9; 10 for a character that is no digit
+unfoldable pub digitOf : ℕ → ℕ
+digitOf c = cond (leb 48 c && leb c 57) (c - 48) (placeIn raisedNumerals c)
+
+abbrev pub isDigit : ℕ → Bool
 isDigit c = ltb (digitOf c) 10
 
 -- The signs of `scan_token`, by character: # ♯, ♭, △ ^ Δ, -, °, ø, /, +, comma, ( and ), one line each in this order; 0 for a character
@@ -43,7 +52,7 @@ signOf c =
     0))))))))))
 
 -- "Each character that is no ASCII letter, ASCII digit or space and has no token of its own is Illegal, at its first byte, with its byte
--- length": as a word that no list has.
+-- length": as a word that no list has. The ten raised numerals are digits too; every other numeral that is not ASCII is such a character.
 abbrev pub signHead : ℕ → ℕ → Head
 signHead c n = cond (eqb (signOf c) 0) (Word illegal n) (Sign (signOf c) n)
 
@@ -99,7 +108,7 @@ abbrev pub signPos : ℕ → ℕ → ℕ
 signPos p n = p + n
 
 -- The tokens from a head at p on. `held` are the Illegal digits of the run so far: "Its Illegal digits come after all its numbers, last one
--- first." `more k held` goes on after k bytes more.
+-- first." "A stray numeral is Illegal at its first byte, with length 1." `more k held` goes on after k bytes more.
 abbrev pub emit : Head → List Token → ℕ → (ℕ → List Token → List Token) → List Token
 emit Space held p more = held ++ more 0 []
 emit (Sign k n) held p more = held ++ (token k (signPos p n) 1 ∷ more (n - 1) [])

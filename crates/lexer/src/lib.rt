@@ -8,7 +8,7 @@ ghost use Rattle.intervals.specs.Interval.{elem};
 ghost use Rattle.token.specs.Token.{token as tokenOf, rows, Room, Untouched};
 ghost use Rattle.utf8.specs.Utf8.{begins, charAt};
 ghost use Rattle.lexer.specs.Words.{words as wordList, isLetter, runEnd, wordByEnds};
-ghost use Rattle.lexer.specs.Lexer.{digitOf, signOf, signHead, wordHead, twoDigits, oneDigit, digitIn, numberHead, headBy, headOf, sizeOf, lex};
+ghost use Rattle.lexer.specs.Lexer.{raisedNumerals, placeIn, digitOf, signOf, signHead, wordHead, twoDigits, oneDigit, numberHead, numberBy, headBy, headOf, sizeOf, lex};
 ghost use Rattle.lexer.specs.State.{Tables, Candidate, lastEnd, longestWord, placeDown, nextPlaces, info as infoOf, padded, wordAt, scan, plan, planOf, Inserted, Emitted, Scannable, Went, Written, Scanned};
 ghost use Rattle.utf8.specs.declared.Found.the-variants as utf8;
 use token::AUG;
@@ -331,7 +331,26 @@ fn word_by_ends(
     }
 }
 
-// The digit that a character is, 10 for none.
+// The digit that one of the raised numerals ⁰ ¹ ² ³ ⁴ ⁵ ⁶ ⁷ ⁸ ⁹ is, 10 for any other character.
+fn raised_digit(c: u32) -> u8
+    ensures { λ r. ⌜ (r ≡ placeIn raisedNumerals c) × (r ≤ 10) ⌝ }
+{
+    match c {
+        0x2070 => 0,
+        0xB9 => 1,
+        0xB2 => 2,
+        0xB3 => 3,
+        0x2074 => 4,
+        0x2075 => 5,
+        0x2076 => 6,
+        0x2077 => 7,
+        0x2078 => 8,
+        0x2079 => 9,
+        _ => 10,
+    }
+}
+
+// The digit that a character is, plain or raised, 10 for none.
 fn digit_of(c: u32) -> u8
     ensures { λ r. ⌜ (r ≡ digitOf c) × (r ≤ 10) ⌝ }
 {
@@ -341,7 +360,7 @@ fn digit_of(c: u32) -> u8
     if c <= 57 {
         return (c - 48) as u8;
     }
-    10
+    raised_digit(c)
 }
 
 // The number of a sign's type, 0 for a character that is no sign: # ♯ ♭ △ ^ Δ - ° ø / + , ( ) in this order.
@@ -387,18 +406,6 @@ fn word_head(m: Match) -> Head
     Head::Word(m.kind, n)
 }
 
-// The digit that stands at a place of the text, 10 for none. A byte below 128 is its own character, and no character that begins with
-// another byte is a digit.
-fn digit_at(text: &[u8], at: usize) -> u8
-    ensures { λ r. ⌜ (r ≡ digitIn (charAt (now (text .entry)) at)) × (r ≤ 10) ⌝ }
-{
-    if text.len() <= at {
-        return 10;
-    }
-    let b = text[at];
-    digit_of(b as u32)
-}
-
 // The numbers of two digits, and those of one.
 fn is_two(v: u8) -> bool
     ensures { λ r. ⌜ r ≡ elem v twoDigits ⌝ }
@@ -440,14 +447,26 @@ fn number_head(d: u8, n: usize, e: u8, m: usize) -> Head
     Head::Digit(n)
 }
 
-// What the character c, of n bytes, begins at a place of the text, if it is no letter. A digit behind the first one has one byte.
+// The number that the digit d, of n bytes, begins with, by the character that stands behind it, at a place of the text.
+fn number_by(text: &[u8], at: usize, d: u8, n: usize) -> Head
+    requires { ⌜ (d ≤ 10) × (n ≤ 256) × (length (now text) ≤ 256) ⌝ }
+    ensures { λ r. ⌜ r ≡ numberBy d n (charAt (now (text .entry)) at) ⌝ }
+{
+    match utf8::char_at(text, at) {
+        Found::Char(c, m) => number_head(d, n, digit_of(c), m),
+        Found::Bad => number_head(d, n, 10, 0),
+        Found::End => number_head(d, n, 10, 0),
+    }
+}
+
+// What the character c, of n bytes, begins at a place of the text, if it is no letter.
 fn head_by(text: &[u8], at: usize, c: u32, n: usize) -> Head
     requires { ⌜ (isLetter c ≡ false) × (at + n ≤ length (now text)) × (length (now text) ≤ 256) ⌝ }
     ensures { λ r. ⌜ r ≡ headBy (utf8.Char c n) (drop at (now (text .entry))) ⌝ }
 {
     let d = digit_of(c);
     if d < 10 {
-        return number_head(d, n, digit_at(text, at + n), 1);
+        return number_by(text, at + n, d, n);
     }
     if c == 32 {
         return Head::Space;

@@ -6,7 +6,7 @@ use Rattle.expression.specs.ParserError.{allNumbers}
 use Rattle.expression.specs.declared.expression.Exp.the-variants.{Add, Extension, Omit}
 use Rattle.expression.specs.declared.expression.Exp.{Exp}
 use Rattle.folding.specs.Folding.{concat, count, foldOn, isMaj, join, preProcess}
-use Rattle.lexer.specs.Lexer.{headOf, isDigit, lex, signOf, tokensOf}
+use Rattle.lexer.specs.Lexer.{digitOf, headOf, lex, signOf, tokensOf}
 use Rattle.lexer.specs.Text.{ascii}
 use Rattle.lexer.specs.Words.{byEnds, isLetter, runEnd, wordTo, words}
 use Rattle.parser.specs.Parser.{lastSix, parseOf, walk}
@@ -24,7 +24,7 @@ refused : (errors [] ≡ 9 ∷ 0 ∷ 0 ∷ 0 ∷ [])
     × (errors (ascii "C)") ≡ 15 ∷ 2 ∷ 0 ∷ 0 ∷ [])
     × (errors (ascii "C((") ≡ 17 ∷ 2 ∷ 0 ∷ 0 ∷ 16 ∷ 3 ∷ 0 ∷ 0 ∷ [])
     × (errors (ascii "C(/") ≡ 14 ∷ 3 ∷ 0 ∷ 0 ∷ [])
-unfolding headOf isDigit isLetter lex signOf byEnds runEnd wordTo words concat count foldOn isMaj join lastSix walk typeOf bits charOf encode isScalar
+unfolding headOf digitOf isLetter lex signOf byEnds runEnd wordTo words concat count foldOn isMaj join lastSix walk typeOf bits charOf encode isScalar
 refused = (refl, refl, refl, refl)
 
 -- `C(omit3,)5` and `C6/9`: the group outlives its bracket, and the 9 behind a 6 is added
@@ -32,5 +32,5 @@ accepted : (errors (ascii "C(omit3,)5") ≡ [])
     × (expressions (ascii "C(omit3,)5") ≡ Omit 4 6 ∷ Omit 8 9 ∷ [])
     × (errors (ascii "C6/9") ≡ [])
     × (expressions (ascii "C6/9") ≡ Extension 11 1 ∷ Add 17 3 ∷ [])
-unfolding headOf isDigit isLetter lex signOf byEnds runEnd wordTo words concat count foldOn isMaj join lastSix walk typeOf bits charOf encode isScalar
+unfolding headOf digitOf isLetter lex signOf byEnds runEnd wordTo words concat count foldOn isMaj join lastSix walk typeOf bits charOf encode isScalar
 accepted = (refl, refl, refl, refl)

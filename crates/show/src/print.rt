@@ -38,25 +38,29 @@ pub(crate) fn put_text(text: &[u8]) {
     }
 }
 
-// A byte that begins no character, in UTF-8.
-fn is_inside(byte: u8) -> bool {
-    if byte < 128 {
-        return false;
+// Does a character of a text, in UTF-8, end before the byte i? A byte from 128 to 191 goes on with one.
+fn ends_before(text: &[u8], i: usize) -> bool {
+    if text.len() <= i {
+        return true;
     }
-    byte < 192
+    if text[i] < 128 {
+        return true;
+    }
+    192 <= text[i]
 }
 
-// A space for each character that begins before the byte n.
+// A space for each character that ends before the byte n: what is printed next stands under the character that has this byte, also where
+// it is not its first (the position of a wrong number behind a sign may lie inside a raised numeral).
 pub(crate) fn put_spaces(text: &[u8], n: usize) {
     let mut i = 0;
     while i < text.len() {
-        if i == n {
+        if n <= i {
             return;
         }
-        if !is_inside(text[i]) {
+        i += 1;
+        if ends_before(text, i) {
             put(b" ");
         }
-        i += 1;
     }
 }
 

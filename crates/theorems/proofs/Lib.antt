@@ -9,4 +9,8 @@ pub mod Trips
 pub mod Walks
 pub mod Songs
 pub mod CSongs
+pub mod RaisedCharacters
+pub mod RaisedRuns
+pub mod RaisedHeads
+pub mod Raised
 pub mod Theorems

@@ -4,7 +4,7 @@ use mathlib.Core.Path.{refl}
 use Rattle.intervals.specs.Interval.{insert, remove}
 use Rattle.display.specs.Display.{displayOf, order}
 use Rattle.folding.specs.Folding.{concat, count, foldOn, isMaj, join}
-use Rattle.lexer.specs.Lexer.{headOf, isDigit, lex, signOf}
+use Rattle.lexer.specs.Lexer.{digitOf, headOf, lex, signOf}
 use Rattle.lexer.specs.Words.{byEnds, isLetter, runEnd, wordTo, words}
 use Rattle.parser.specs.Parser.{lastSix, walk}
 use Rattle.reader.specs.Reader.{answerTo}
@@ -14,5 +14,5 @@ use Rattle.validator.specs.Validator.{allFrom, timesOf, extensionFault, firstFr
 use Rattle.theorems.specs.Specimens.{ReadAsSaid}
 
 pub read-as-said : ReadAsSaid
-unfolding headOf isDigit isLetter lex signOf byEnds runEnd wordTo words concat count foldOn isMaj join lastSix walk typeOf bits charOf encode isScalar wellFrom answerTo displayOf order insert remove allFrom timesOf extensionFault firstFrom firstWrong lastBelow semitoneErrors validationOf
+unfolding headOf digitOf isLetter lex signOf byEnds runEnd wordTo words concat count foldOn isMaj join lastSix walk typeOf bits charOf encode isScalar wellFrom answerTo displayOf order insert remove allFrom timesOf extensionFault firstFrom firstWrong lastBelow semitoneErrors validationOf
 read-as-said = refl

@@ -1,6 +1,7 @@
 -- Every statement of specs/ has its proof.
 -- Assumes nothing.
 use Rattle.theorems.proofs.CSongs.{c-all-bars, c-always-eight, c-bars-from, c-handed-out, c-step-turns}
+use Rattle.theorems.proofs.Raised.{raised-tokens}
 use Rattle.theorems.proofs.Readings.{c-read-errors, c-read-numbered, c-read-record, c-read-untouched, read-apart, read-errors, read-numbered, read-record, read-untouched}
 use Rattle.theorems.proofs.Songs.{all-bars, always-eight, bars-from, handed-out, next-all-bars, next-always-eight, next-bars-from, next-handed-out, next-turns, step-turns}
 use Rattle.theorems.proofs.Specimens.{read-as-said}
@@ -53,4 +54,5 @@ theorems =
       cBarsFrom = c-bars-from;
       cHandedOut = c-handed-out;
       cAlwaysEight = c-always-eight;
+      raisedTokens = raised-tokens;
     }

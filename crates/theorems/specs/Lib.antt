@@ -6,5 +6,6 @@ pub mod CWriting
 pub mod CTrips
 pub mod Song
 pub mod CSong
+pub mod Raised
 pub mod Specimens
 pub mod Theorems

@@ -1,4 +1,5 @@
--- The card specimens of document 01 that have a star: one table of what is read and spelled, and one statement for all of it.
+-- The card specimens of document 01 that have a star, and the text of document 02 [3]: one table of what is read and spelled, and one
+-- statement for all of it.
 use mathlib.Core.Bool.{cond}
 use mathlib.Core.List.{List, [], _∷_, _++_, map}
 use mathlib.Core.Path.{_≡_}
@@ -10,6 +11,7 @@ use Rattle.note.specs.declared.OptionalNote.{OptionalNote}
 use Rattle.lexer.specs.Text.{ascii}
 use Rattle.house_text.specs.Spelling.{house}
 use Rattle.reader.specs.Reader.{ReadOutcome, answerTo}
+use Rattle.utf8.specs.Utf8.{encodeAll}
 
 -- a card, the answer's number, the root's number (letter times three, and 1 for a sharp, 2 for a flat; 21 for none), the members of N or
 -- the errors, and the house spelling where the paper has it
@@ -52,6 +54,10 @@ specimenOf s o =
 abbrev answer : Specimen → Specimen
 answer s = specimenOf s (answerTo (s .card))
 
+-- "`C²` now reads as `C2`, whose bare second validation refuses: number 5, kind 6 at 1."
+abbrev cSquared : List ℕ
+cSquared = encodeAll (0x43 ∷ 0xB2 ∷ [])
+
 abbrev pub specimens : List Specimen
 specimens =
     spelled (ascii "C6/9") 0 0 (0 ∷ 4 ∷ 8 ∷ 11 ∷ 17 ∷ []) (ascii "C,add6,add9")
@@ -67,6 +73,7 @@ specimens =
     ∷ card (ascii "C(/") 4 21 (14 ∷ 3 ∷ 0 ∷ 0 ∷ [])
     ∷ card (ascii "Cadd7") 5 21 (7 ∷ 4 ∷ 0 ∷ 0 ∷ [])
     ∷ card (ascii "C7Maj7") 5 21 (10 ∷ 13 ∷ 14 ∷ 0 ∷ [])
+    ∷ card cSquared 5 21 (6 ∷ 1 ∷ 0 ∷ 0 ∷ [])
     ∷ []
 
 -- each is read and spelled as the paper says

@@ -5,6 +5,7 @@ use Rattle.theorems.specs.CReading as C-reading
 use Rattle.theorems.specs.CSong as C-song
 use Rattle.theorems.specs.CTrips as C-trips
 use Rattle.theorems.specs.CWriting as C-writing
+use Rattle.theorems.specs.Raised.{RaisedTokens}
 use Rattle.theorems.specs.Reading as reading
 use Rattle.theorems.specs.Song as song
 use Rattle.theorems.specs.Specimens.{ReadAsSaid}
@@ -58,3 +59,5 @@ pub record Theorems : Type 0 where
   pub cBarsFrom : C-song.BarsFrom
   pub cHandedOut : C-song.HandedOut
   pub cAlwaysEight : C-song.AlwaysEight
+  -- raised numerals: the tokens of the same text in plain digits, positions mapped back
+  pub raisedTokens : RaisedTokens

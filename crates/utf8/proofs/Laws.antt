@@ -171,7 +171,8 @@ well-skip zero s = refl
 well-skip (suc k) [] = refl
 well-skip (suc k) (b ∷ s) = well-skip k s
 
-encode-length : (c : ℕ) → 1 ≤ length (encode c)
+-- a character has a byte at least
+pub encode-length : (c : ℕ) → 1 ≤ length (encode c)
 encode-length c = go (row c)
   where
     go : Row c → 1 ≤ length (encode c)

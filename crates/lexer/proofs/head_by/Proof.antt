@@ -1,37 +1,31 @@
 -- The choices of the definition, in its order, for a character that is no letter.
 -- Assumes nothing.
-use mathlib.Core.Path.{ap, ap₂, _≡_, sym, _∙_}
-use lib.ListN.{drop}
+use mathlib.Core.Path.{ap₂, sym, _∙_}
 use lib.Seq.{drop-drop}
 use borrow.Author.Needs.{needs}
 use borrow.Author.Tests.{eq-eqb, ne-eqb}
 use Rattle.utf8.specs.Utf8.{charOf}
-use Rattle.lexer.specs.Lexer.{digitIn, digitOf, numberHead}
-use Rattle.lexer.proofs.Heads.{is-digit, no-digit, second-byte}
+use Rattle.lexer.specs.Lexer.{numberBy}
+use Rattle.lexer.proofs.Heads.{is-digit, no-digit}
 use Rattle.lexer.proofs.head_by.Statement.{statement}
 use Rattle.lexer.proofs.head_by.Tie as tie
 
 digit-of-requires : tie.Need-digit-of-requires
 digit-of-requires c κs = search needs
 
-add-digit-at : tie.Need-add-digit-at
-add-digit-at c = search needs
+add-number-by : tie.Need-add-number-by
+add-number-by c = search needs
 
-digit-at-requires : tie.Need-digit-at-requires
-digit-at-requires c κs = search needs
-
-number-head-requires : tie.Need-number-head-requires
-number-head-requires c κs = search needs
+number-by-requires : tie.Need-number-by-requires
+number-by-requires c κs = search needs
 
 returns : tie.Need-returns
 returns c =
-    let a = c .before .before .before .before .before .args in
-    let s = drop (a .at) (a .text .now) in
-    let d = c .before .before .before .digit-of .ensures .0 in
-    let e : c .before .digit-at .result ≡ digitIn (charOf (drop (a .n) s)) =
-    c .before .digit-at .ensures .0 ∙ ap (λ t. digitIn (charOf t)) (sym (drop-drop (a .n) (a .at) (a .text .now))) in
-    rw (c .before .before .before .before .before .pre .0, is-digit (a .c) d (c .before .before .if1 .taken))
-    (c .number-head .ensures ∙ ap₂ (λ x y. numberHead x (a .n) y 1) d e ∙ second-byte (digitOf (a .c)) (a .n) (drop (a .n) s))
+    let start = c .before .before .before .before in
+    let a = start .args in
+    let d = c .before .before .digit-of .ensures .0 in
+    rw (start .pre .0, is-digit (a .c) d (c .before .if1 .taken))
+    (c .number-by .ensures ∙ ap₂ (λ x t. numberBy x (a .n) (charOf t)) d (sym (drop-drop (a .n) (a .at) (a .text .now))))
 
 returns-2 : tie.Need-returns-2
 returns-2 c =
@@ -53,9 +47,8 @@ head-by-spec =
     tie.close
     (tie.spec
     digit-of-requires
-    add-digit-at
-    digit-at-requires
-    number-head-requires
+    add-number-by
+    number-by-requires
     returns
     returns-2
     sign-head-requires

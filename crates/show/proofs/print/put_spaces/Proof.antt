@@ -18,11 +18,11 @@ loop-holds c = search needs
 returns : tie.Need-returns Inv-loop μ-loop
 returns c = search needs
 
-shared-slice-read-is-inside : tie.Need-shared-slice-read-is-inside Inv-loop μ-loop
-shared-slice-read-is-inside c = search needs
+add-i : tie.Need-add-i Inv-loop μ-loop
+add-i c = search needs
 
-is-inside-requires : tie.Need-is-inside-requires Inv-loop μ-loop
-is-inside-requires c κs = search needs
+ends-before-requires : tie.Need-ends-before-requires Inv-loop μ-loop
+ends-before-requires c κs = search needs
 
 slice-aggregate-put : tie.Need-slice-aggregate-put Inv-loop μ-loop
 slice-aggregate-put c = search needs
@@ -30,14 +30,17 @@ slice-aggregate-put c = search needs
 put-requires : tie.Need-put-requires Inv-loop μ-loop
 put-requires c κs = search needs
 
-add-i : tie.Need-add-i Inv-loop μ-loop
-add-i c = search needs
-
 loop-less : tie.Need-loop-less Inv-loop μ-loop
 loop-less c = search needs
 
 loop-again : tie.Need-loop-again Inv-loop μ-loop
 loop-again c = search needs
+
+loop-less-2 : tie.Need-loop-less-2 Inv-loop μ-loop
+loop-less-2 c = search needs
+
+loop-again-2 : tie.Need-loop-again-2 Inv-loop μ-loop
+loop-again-2 c = search needs
 
 returns-2 : tie.Need-returns-2 Inv-loop μ-loop
 returns-2 c = search needs
@@ -50,11 +53,12 @@ put-spaces-spec =
     μ-loop
     loop-holds
     returns
-    shared-slice-read-is-inside
-    is-inside-requires
+    add-i
+    ends-before-requires
     slice-aggregate-put
     put-requires
-    add-i
     loop-less
     loop-again
+    loop-less-2
+    loop-again-2
     returns-2)
