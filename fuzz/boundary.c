@@ -53,7 +53,7 @@ static void kept(const piece *p, size_t n, const char *what) {
   if (n > p->size || memcmp(p->now, p->before, GUARD) != 0 || memcmp(p->now + GUARD + n, p->before + GUARD + n, p->size - n + GUARD) != 0) fault(what);
 }
 
-static const char *const words[] = {"C", "F#", "Bb", "m", "maj", "Maj7", "dim", "dim7", "aug", "sus", "sus2", "sus4", "susb2", "add", "omit", "no", "alt", "bass", "(", ")", ",", "/", "#", "b", "2", "3", "4", "5", "6", "7", "9", "11", "13", "1", "8", "0", " ", "+", "-", "^", "\xC2\xB0", "\xC3\xB8", "\xE2\x96\xB3", "\xE2\x99\xAF", "\xE2\x99\xAD", "\xC2\xB2", "\xFF", "\xED\xA0\x80", "\xF0\x9F\x8E\xB9", "E/9", "6/9", ",7", ",b5", "add9", "(b9,#11)"};
+static const char *const words[] = {"C", "F#", "Bb", "m", "maj", "Maj7", "dim", "dim7", "aug", "sus", "sus2", "sus4", "susb2", "add", "omit", "no", "alt", "bass", "(", ")", ",", "/", "#", "b", "2", "3", "4", "5", "6", "7", "9", "11", "13", "1", "8", "0", " ", "+", "-", "^", "\xC2\xB0", "\xC3\xB8", "\xE2\x96\xB3", "\xE2\x99\xAF", "\xE2\x99\xAD", "\xC2\xB2", "\xC2\xB9", "\xE2\x81\xB7", "\xC2\xBD", "\xFF", "\xED\xA0\x80", "\xF0\x9F\x8E\xB9", "E/9", "6/9", ",7", ",b5", "add9", "(b9,#11)"};
 
 static size_t near(size_t limit) { /* around a limit, or anything below and somewhat above it */
   switch (below(4)) {
