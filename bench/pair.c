@@ -3,11 +3,10 @@
 #include <stdio.h>
 #include <stdlib.h>
 #include <string.h>
-#include <time.h>
 
 #include "nophtris.h"
+#include "timing.h"
 
-#define ROUNDS 101
 #define SHORTEST 1e6 /* ns of one side in a round */
 #define MOST 256     /* texts of a row */
 
@@ -19,28 +18,12 @@ static size_t lens[MOST], many;
 static uint16_t errors[NOPHTRIS_ERRORS], count;
 static nophtris_chord chord;
 
-static double now(void) {
-  struct timespec t;
-  clock_gettime(CLOCK_MONOTONIC, &t);
-  return t.tv_sec * 1e9 + t.tv_nsec;
-}
-
 /* ns per text of so many passes over the texts. */
 static double timed(reader *read, size_t times) {
   double start = now();
   for (size_t i = 0; i < times; i++)
     for (size_t k = 0; k < many; k++) read((const uint8_t *)texts[k], lens[k], errors, NOPHTRIS_ERRORS, &count, &chord);
   return (now() - start) / (times * many);
-}
-
-static int smaller(const void *a, const void *b) {
-  double x = *(const double *)a, y = *(const double *)b;
-  return (x > y) - (x < y);
-}
-
-static double median(double *rounds) {
-  qsort(rounds, ROUNDS, sizeof *rounds, smaller);
-  return rounds[ROUNDS / 2];
 }
 
 static void row(const char *name) {

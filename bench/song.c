@@ -4,23 +4,16 @@
 #include <stdio.h>
 #include <stdlib.h>
 #include <string.h>
-#include <time.h>
 
 #include "nophtris.h"
+#include "timing.h"
 
-#define ROUNDS 101
 #define SHORTEST 1e6 /* ns of one side in a round */
 
 static uint8_t line[NOPHTRIS_LINE];
 static size_t from[NOPHTRIS_LINE + 1], len[NOPHTRIS_LINE + 1];
 static uint16_t errors[NOPHTRIS_ERRORS], count;
 static nophtris_chord chord;
-
-static double now(void) {
-  struct timespec t;
-  clock_gettime(CLOCK_MONOTONIC, &t);
-  return t.tv_sec * 1e9 + t.tv_nsec;
-}
 
 /* The line by steps; the count of its bars. */
 static size_t by_steps(void) {
@@ -58,16 +51,6 @@ static double timed(size_t walk(void), size_t times) {
   double start = now();
   for (size_t i = 0; i < times; i++) bars += walk();
   return (now() - start) / bars;
-}
-
-static int smaller(const void *a, const void *b) {
-  double x = *(const double *)a, y = *(const double *)b;
-  return (x > y) - (x < y);
-}
-
-static double median(double *rounds) {
-  qsort(rounds, ROUNDS, sizeof *rounds, smaller);
-  return rounds[ROUNDS / 2];
 }
 
 /* A piece again and again, up to 4,096 bytes. */
