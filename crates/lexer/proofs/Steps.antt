@@ -11,7 +11,7 @@ use native.Mathlib.Omega.{arith}
 use lib.Dec.{T}
 use lib.ListN.{length, take, drop, set, length-append, drop-of-length-le, length-drop}
 use lib.Seq.{slice, slice-empty, drop-cons, drop-drop, take-take, take-at, drop-at, length-take-le, take-suc-set, drop-set-lt}
-use Rattle.token.specs.Token.{Token, token}
+use Rattle.token.specs.Token.{Token, token, Room}
 use Rattle.lexer.specs.Lexer.{headOf, emit, illegal, lex, sizeOf, wordHead}
 use Rattle.lexer.specs.State.{planOf, allTokens, Few, Inserted, Emitted, Went, Written, scan}
 use Rattle.lexer.specs.Words.{runEnd, wordByEnds}
@@ -146,6 +146,11 @@ module _ {text : List ℕ} {s : Scan} {h : Head} (F : Few text s) (l : s .at < l
       let n : length (drop (s .at) text) ≡ length text - s .at = length-drop (s .at) text in
       let z = subst (λ (g : Head). Sized g (drop (s .at) text)) (sym e) (head-sized (drop (s .at) text) (omega arith)) in
       (z .some, omega (arith, z .within))
+
+  -- what `emit` asks for
+  pub step-asks : {ks ps ls : List ℕ} → length text ≤ 256 → Room (length text) ks ps ls
+      → (s .at + sizeOf h ≤ 256) × (s .held ≤ s .count) × (s .count ≤ 256) × Room (s .count + 1) ks ps ls
+  step-asks z r = (omega (arith, step-head .1), F .among, omega (arith, F .some, F .within), omega (arith, F .some, r))
 
   -- one head
   pub step-went : {s′ : Scan} {R R′ : List Token} → s .count + 1 ≤ length R → Emitted h s s′ R R′ → Went text s s′ R R′

@@ -15,16 +15,12 @@ use Rattle.lexer.specs.Lexer.{emit, headOf, illegal, lex, sizeOf, tokensOf}
 use Rattle.lexer.specs.declared.Head.the-variants.{Space, Sign, Word, Number, Digit}
 use Rattle.lexer.specs.declared.Head.{Head}
 use Rattle.theorems.proofs.RaisedHeads.{heads-alike, resized}
-use Rattle.theorems.proofs.RaisedRuns.{bytes}
+use Rattle.theorems.proofs.RaisedRuns.{bytes, more-bytes}
 use Rattle.theorems.specs.Raised.{RaisedTokens, back, mapped, plain, plainChar, width}
 use Rattle.token.specs.Token.{Token, token, typeNumber}
 use Rattle.token.specs.declared.TokenType.the-variants.{Eof}
 use Rattle.utf8.proofs.Laws.{encode-length}
 use Rattle.utf8.specs.Utf8.{isScalar, allScalar, encode, encodeAll}
-
--- the bytes of one character more
-more-bytes : (n c : ℕ) (cs : List ℕ) → bytes (suc n) (c ∷ cs) ≡ width c + bytes n cs
-more-bytes n c cs = rw length-append
 
 -- the place of the first character, and of what stands behind it
 back-start : (cs : List ℕ) → back cs 0 ≡ 0
@@ -76,46 +72,42 @@ unfolding lex
 lex-head [] held p l = absurd (omega arith)
 lex-head (b ∷ s) held p l = refl
 
--- `mapped` for any map of positions
-abbrev moved : (ℕ → ℕ) → Token → Token
-moved g t = token (t .kind) (g (t .pos)) (t .len)
-
 -- What alike heads give, where what comes after them is alike: `own` goes on in the text, `other` in its plain form.
 module _ (g : ℕ → ℕ) (own other : ℕ → List Token → List Token) (p q : ℕ) (start : g p ≡ q) (held : List Token) where
   -- behind what is held
-  front : (ts us : List Token) → ts ≡ map (moved g) us → map (moved g) held ++ ts ≡ map (moved g) (held ++ us)
-  front ts us e = ap (λ l. map (moved g) held ++ l) e ∙ sym (map-append (moved g) held us)
+  front : (ts us : List Token) → ts ≡ map (mapped g) us → map (mapped g) held ++ ts ≡ map (mapped g) (held ++ us)
+  front ts us e = ap (λ l. map (mapped g) held ++ l) e ∙ sym (map-append (mapped g) held us)
 
   -- behind a head, whose first byte is gone
-  after : (n m : ℕ) (h : List Token) → 1 ≤ n → 1 ≤ m → own n (map (moved g) h) ≡ map (moved g) (other m h)
-      → own (suc (n - 1)) (map (moved g) h) ≡ map (moved g) (other (suc (m - 1)) h)
+  after : (n m : ℕ) (h : List Token) → 1 ≤ n → 1 ≤ m → own n (map (mapped g) h) ≡ map (mapped g) (other m h)
+      → own (suc (n - 1)) (map (mapped g) h) ≡ map (mapped g) (other (suc (m - 1)) h)
   after n m h l l′ e = let a : suc (n - 1) ≡ n = omega arith in let b : suc (m - 1) ≡ m = omega arith in rw (a, b) e
 
   emit-alike : (x : Head) (m : ℕ) → 1 ≤ sizeOf x → 1 ≤ sizeOf (resized x m) → g (p + sizeOf (resized x m)) ≡ q + sizeOf x
-      → ((h : List Token) → own (sizeOf x) (map (moved g) h) ≡ map (moved g) (other (sizeOf (resized x m)) h))
-      → emit x (map (moved g) held) q (λ k h. own (suc k) h) ≡ map (moved g) (emit (resized x m) held p (λ k h. other (suc k) h))
+      → ((h : List Token) → own (sizeOf x) (map (mapped g) h) ≡ map (mapped g) (other (sizeOf (resized x m)) h))
+      → emit x (map (mapped g) held) q (λ k h. own (suc k) h) ≡ map (mapped g) (emit (resized x m) held p (λ k h. other (suc k) h))
   emit-alike Space m l l′ e f = front _ _ (f [])
   emit-alike (Sign k n) m l l′ e f = front _ _ (ap₂ (λ r ts. token k r 1 ∷ ts) (sym e) (after n n [] l l′ (f [])))
   emit-alike (Word k n) m l l′ e f = front _ _ (ap₂ (λ r ts. token k r n ∷ ts) (sym start) (after n n [] l l′ (f [])))
   emit-alike (Number k t n) m l l′ e f = ap₂ (λ r ts. token k r t ∷ ts) (sym start) (after n m held l l′ (f held))
   emit-alike (Digit n) m l l′ e f =
       let h = token illegal p 1 ∷ held in
-      ap (λ r. own (suc (n - 1)) (token illegal r 1 ∷ map (moved g) held)) (sym start) ∙ after n m h l l′ (f h)
+      ap (λ r. own (suc (n - 1)) (token illegal r 1 ∷ map (mapped g) held)) (sym start) ∙ after n m h l l′ (f h)
 
 -- the same tokens, after the first n characters of a text and of its plain form
 abbrev Same : (ℕ → ℕ) → ℕ → ℕ → List ℕ → ℕ → List Token → Type 0
 Same g p q cs n held =
-    lex (bytes n cs) (map (moved g) held) q (encodeAll cs)
-    ≡ map (moved g) (lex (bytes n (map plainChar cs)) held p (plain cs))
+    lex (bytes n cs) (map (mapped g) held) q (encodeAll cs)
+    ≡ map (mapped g) (lex (bytes n (map plainChar cs)) held p (plain cs))
 
 module _ (g : ℕ → ℕ) (p q c : ℕ) (cs : List ℕ) where
   -- one character is skipped
   same-past : (n : ℕ) (held : List Token) → Same g (p + width (plainChar c)) (q + width c) cs n held → Same g p q (c ∷ cs) (suc n) held
   same-past n held e =
       rw (more-bytes n c cs, more-bytes n (plainChar c) (map plainChar cs)) (
-      lex-past (encode c) (encodeAll cs) (bytes n cs) (map (moved g) held) q
+      lex-past (encode c) (encodeAll cs) (bytes n cs) (map (mapped g) held) q
       ∙ e
-      ∙ ap (map (moved g)) (sym (lex-past (encode (plainChar c)) (plain cs) (bytes n (map plainChar cs)) held p)))
+      ∙ ap (map (mapped g)) (sym (lex-past (encode (plainChar c)) (plain cs) (bytes n (map plainChar cs)) held p)))
 
   -- one character is skipped, or a head stands there
   same-step : T (allScalar (c ∷ cs)) → Agree g p q (c ∷ cs)
@@ -132,14 +124,14 @@ module _ (g : ℕ → ℕ) (p q c : ℕ) (cs : List ℕ) where
       let size : sizeOf (resized (headOf s) m) ≡ bytes (suc n) ps = sym (ap sizeOf (heads .same)) ∙ heads .plain-size in
       let w = encode-length c in
       let w′ = encode-length (plainChar c) in
-      lex-head s (map (moved g) held) q (omega (arith, length-append (encode c) (encodeAll cs)))
+      lex-head s (map (mapped g) held) q (omega (arith, length-append (encode c) (encodeAll cs)))
       ∙ emit-alike g (λ k h. lex k h q s) (λ k h. lex k h p (encodeAll ps)) p q start held (headOf s) m
       (omega (arith, heads .own-size, more-bytes n c cs))
       (omega (arith, size, more-bytes n (plainChar c) (map plainChar cs)))
       (rw (size, heads .own-size) (a (suc n)))
       (λ h. rw (size, heads .own-size) (same-past n h (f n h)))
-      ∙ ap (λ x. map (moved g) (emit x held p (λ k h. lex (suc k) h p (encodeAll ps)))) (sym (heads .same))
-      ∙ ap (map (moved g)) (sym (lex-head (encodeAll ps) held p (omega (arith, length-append (encode (plainChar c)) (plain cs)))))
+      ∙ ap (λ x. map (mapped g) (emit x held p (λ k h. lex (suc k) h p (encodeAll ps)))) (sym (heads .same))
+      ∙ ap (map (mapped g)) (sym (lex-head (encodeAll ps) held p (omega (arith, length-append (encode (plainChar c)) (plain cs)))))
 
 -- from any place on
 tokens-alike : (g : ℕ → ℕ) (p q : ℕ) (cs : List ℕ) → T (allScalar cs) → Agree g p q cs → (n : ℕ) (held : List Token) → Same g p q cs n held
@@ -150,11 +142,11 @@ tokens-alike g p q (c ∷ cs) t a n held =
     same-step g p q c cs t a (tokens-alike g (p + width (plainChar c)) (q + width c) cs u (agree-past g p q c cs a)) n held
 
 -- the whole text, with End
-all-alike : (cs : List ℕ) → T (allScalar cs) → tokensOf (encodeAll cs) ≡ map (mapped cs) (tokensOf (plain cs))
+all-alike : (cs : List ℕ) → T (allScalar cs) → tokensOf (encodeAll cs) ≡ map (mapped (back cs)) (tokensOf (plain cs))
 all-alike cs t =
     let a : Agree (back cs) 0 0 cs = λ n. simp zero-add (back-at n cs) in
     ap₂ (λ ts p. ts ++ (token (typeNumber Eof) p 0 ∷ [])) (tokens-alike (back cs) 0 0 cs t a 0 []) (sym (back-behind cs 1))
-    ∙ sym (map-append (mapped cs) (lex 0 [] 0 (plain cs)) _)
+    ∙ sym (map-append (mapped (back cs)) (lex 0 [] 0 (plain cs)) _)
 
 pub raised-tokens : RaisedTokens
 raised-tokens t w = rw (w .encoded) at (all-alike (w .chars) (w .scalars))

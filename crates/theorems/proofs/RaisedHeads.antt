@@ -2,24 +2,24 @@
 -- as many characters. A word is that of the letter run, a number goes by the digits, any other character is its own plain form.
 -- Assumes nothing.
 use mathlib.Core.Bool.{Bool, true, false, cond}
-use mathlib.Core.List.{List, [], _∷_, _++_, map, append-nil}
+use mathlib.Core.List.{List, [], _∷_, _++_, map}
 use mathlib.Core.Path.{_≡_, refl, sym, ap, _∙_}
 use Prim.Native.Nat.{ℕ, suc, _+_, _*_, _-_, _≤_, _<_}
 use native.Mathlib.Omega.{arith}
 use lib.Dec.{T, eqb}
-use lib.ListN.{length, length-append}
+use lib.ListN.{length-append}
 use lib.Seq.{drop-append-seam}
 use borrow.Author.Tests.{eqb-true}
 use mir.Facts.{and-yes}
 use Rattle.intervals.specs.Interval.{elem}
-use Rattle.lexer.proofs.Heads.{head-sized, word-within}
+use Rattle.lexer.proofs.Heads.{head-sized, letter-head, word-within}
 use Rattle.lexer.proofs.Runs.{run-within}
 use Rattle.lexer.specs.Lexer.{bytesIn, digitIn, digitOf, headBy, headOf, illegal, isDigit, numberBy, numberHead, oneDigit, signHead, signOf, sizeOf, twoDigits, wordHead}
-use Rattle.lexer.specs.Words.{isLetter, runEnd, wordByEnds}
+use Rattle.lexer.specs.Words.{isLetter, runEnd}
 use Rattle.lexer.specs.declared.Head.the-variants.{Space, Sign, Word, Number, Digit}
 use Rattle.lexer.specs.declared.Head.{Head}
-use Rattle.theorems.proofs.RaisedCharacters.{plain-digit, plain-is-digit, plain-letter, plain-no-letter, plain-other, plain-scalar, plain-scalars}
-use Rattle.theorems.proofs.RaisedRuns.{bytes, run-alike, run-bytes, letter-run, word-alike}
+use Rattle.theorems.proofs.RaisedCharacters.{plain-digit, plain-is-digit, plain-no-letter, plain-other, plain-scalar, plain-scalars}
+use Rattle.theorems.proofs.RaisedRuns.{bytes, first-bytes, letter-run, run-alike, run-bytes, word-alike}
 use Rattle.theorems.specs.Raised.{plainChar, width}
 use Rattle.utf8.proofs.Laws.{charOf-encode}
 use Rattle.utf8.specs.Utf8.{isScalar, allScalar, charOf, encode, encodeAll}
@@ -53,17 +53,11 @@ module _ (c : ℕ) (r : List ℕ) (t : T (isScalar c)) where
   unfolding headOf
   head-by = rw (charOf-encode c r t)
 
-  letter-begins : isLetter c ≡ true → headOf (encode c ++ r) ≡ wordHead (wordByEnds (encode c ++ r))
-  letter-begins e = head-by ∙ rw e
-
   digit-begins : isLetter c ≡ false → isDigit c ≡ true → headOf (encode c ++ r) ≡ numberBy (digitOf c) (width c) (charOf r)
   digit-begins e d = head-by ∙ rw (e, d, drop-append-seam (encode c) r)
 
   other-begins : isLetter c ≡ false → isDigit c ≡ false → headOf (encode c ++ r) ≡ cond (eqb c 32) Space (signHead c (width c))
   other-begins e d = head-by ∙ rw (e, d)
-
-first-bytes : (c : ℕ) (cs : List ℕ) → bytes 1 (c ∷ cs) ≡ width c
-first-bytes c cs = ap length (append-nil (encode c))
 
 -- a space or a sign is one character
 other-size : (c : ℕ) → sizeOf (cond (eqb c 32) Space (signHead c (width c))) ≡ width c
@@ -108,15 +102,14 @@ number-alike d e c cs =
     (record { more = 0; same = refl; own-size = own; plain-size = plain }))
 
 -- the three kinds of characters
-module _ (c : ℕ) (cs : List ℕ) (t : T (isScalar c)) where
+module _ (c : ℕ) (cs : List ℕ) where
   letter-alike : isLetter c ≡ true → Alike (c ∷ cs) (headOf (encodeAll (c ∷ cs))) (headOf (encodeAll (map plainChar (c ∷ cs))))
   letter-alike e =
       let s = encodeAll (c ∷ cs) in
       let s′ = encodeAll (map plainChar (c ∷ cs)) in
-      let p = plain-letter c e in
-      let x = letter-begins c (encodeAll cs) t e in
-      let y = letter-begins (plainChar c) (encodeAll (map plainChar cs)) (plain-scalar c t) (ap isLetter p ∙ e) in
       let r : 0 < runEnd s = omega (arith, letter-run c (encodeAll cs) e) in
+      let x = letter-head s r in
+      let y = letter-head s′ (omega (arith, run-alike (c ∷ cs))) in
       let some = head-sized s (omega (arith, run-within s)) .some in
       let within : sizeOf (headOf s) ≤ runEnd s = rw x (word-within s r) in
       let n : suc (sizeOf (headOf s) - 1) ≡ sizeOf (headOf s) = omega arith in
@@ -124,9 +117,9 @@ module _ (c : ℕ) (cs : List ℕ) (t : T (isScalar c)) where
       (sym (run-bytes _ (c ∷ cs) (omega arith) ∙ n))
       (sym (run-bytes _ (map plainChar (c ∷ cs)) (omega (arith, run-alike (c ∷ cs))) ∙ n))
 
-  other-alike : isLetter c ≡ false → isDigit c ≡ false
+  other-alike : T (isScalar c) → isLetter c ≡ false → isDigit c ≡ false
       → Alike (c ∷ cs) (headOf (encodeAll (c ∷ cs))) (headOf (encodeAll (map plainChar (c ∷ cs))))
-  other-alike e d =
+  other-alike t e d =
       let p = plain-other c d in
       let x = other-begins c (encodeAll cs) t e d in
       let y = other-begins c (encodeAll (map plainChar cs)) t e d in
@@ -135,9 +128,9 @@ module _ (c : ℕ) (cs : List ℕ) (t : T (isScalar c)) where
       (n ∙ sym (first-bytes c cs))
       (n ∙ ap width (sym p) ∙ sym (first-bytes (plainChar c) (map plainChar cs)))
 
-  digit-alike : isLetter c ≡ false → isDigit c ≡ true → T (allScalar cs)
+  digit-alike : T (isScalar c) → isLetter c ≡ false → isDigit c ≡ true → T (allScalar cs)
       → Alike (c ∷ cs) (headOf (encodeAll (c ∷ cs))) (headOf (encodeAll (map plainChar (c ∷ cs))))
-  digit-alike e d u =
+  digit-alike t e d u =
       let p = plain-is-digit c ∙ d in
       let ds = encodeAll (map plainChar cs) in
       rw (
@@ -156,6 +149,6 @@ heads-alike c cs t = go (isLetter c) (isDigit c) refl refl (and-yes (isScalar c)
   where
     go : (a b : Bool) → isLetter c ≡ a → isDigit c ≡ b → T (isScalar c) × T (allScalar cs)
         → Alike (c ∷ cs) (headOf (encodeAll (c ∷ cs))) (headOf (encodeAll (map plainChar (c ∷ cs))))
-    go true b e d s = letter-alike c cs (s .0) e
+    go true b e d s = letter-alike c cs e
     go false true e d s = digit-alike c cs (s .0) e d (s .1)
     go false false e d s = other-alike c cs (s .0) e d

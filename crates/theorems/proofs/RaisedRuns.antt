@@ -4,22 +4,30 @@
 use mathlib.Core.Bool.{Bool, true, false, _&&_, cond}
 use mathlib.Core.List.{List, [], _∷_, _++_, map}
 use mathlib.Core.Path.{_≡_, refl, sym, ap, ap₂, _∙_}
-use Prim.Native.Nat.{ℕ, zero, suc, _≤_, _<_}
+use Prim.Native.Nat.{ℕ, zero, suc, _+_, _≤_, _<_}
+use native.Mathlib.Nat.{add-zero}
 use native.Mathlib.Omega.{arith}
 use lib.Dec.{eqb}
-use lib.ListN.{length, take}
+use lib.ListN.{length, length-append, take}
 use borrow.Author.Tests.{eqb-true}
 use Rattle.lexer.proofs.Heads.{letter-high, letter-low}
 use Rattle.lexer.proofs.Runs.{run-stop, run-turn}
 use Rattle.lexer.specs.Words.{Word, words, match, isLetter, runEnd, wordTo, byEnds, orShorter, wordByEnds}
 use Rattle.theorems.proofs.RaisedCharacters.{plain-letter, plain-no-letter}
-use Rattle.theorems.specs.Raised.{plainChar}
+use Rattle.theorems.specs.Raised.{plainChar, width}
 use Rattle.utf8.proofs.Laws.{Row, one, two, three, four, row}
 use Rattle.utf8.specs.Utf8.{begins, encode, encodeAll}
 
 -- how many bytes the first n characters have
 abbrev pub bytes : ℕ → List ℕ → ℕ
 bytes n cs = length (encodeAll (take n cs))
+
+-- one character, and one more
+pub more-bytes : (n c : ℕ) (cs : List ℕ) → bytes (suc n) (c ∷ cs) ≡ width c + bytes n cs
+more-bytes n c cs = rw length-append
+
+pub first-bytes : (c : ℕ) (cs : List ℕ) → bytes 1 (c ∷ cs) ≡ width c
+first-bytes c cs = more-bytes 0 c cs ∙ add-zero (width c)
 
 -- a letter is one byte
 letter-byte : (c : ℕ) → isLetter c ≡ true → encode c ≡ c ∷ []

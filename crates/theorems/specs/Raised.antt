@@ -27,10 +27,10 @@ abbrev pub back : List ℕ → ℕ → ℕ
 back [] p = p
 back (c ∷ cs) p = cond (ltb p (width (plainChar c))) p (width c + back cs (p - width (plainChar c)))
 
--- a token of the plain text: its kind and length stay, its position is mapped back
-abbrev pub mapped : List ℕ → Token → Token
-mapped cs t = token (t .kind) (back cs (t .pos)) (t .len)
+-- a token whose position is mapped; its kind and length stay
+abbrev pub mapped : (ℕ → ℕ) → Token → Token
+mapped g t = token (t .kind) (g (t .pos)) (t .len)
 
 -- the tokens of a text are those of the plain text, positions mapped back
 abbrev pub RaisedTokens : Type 0
-RaisedTokens = (t : List ℕ) (w : WellFormed t) → tokensOf t ≡ map (mapped (w .chars)) (tokensOf (plain (w .chars)))
+RaisedTokens = (t : List ℕ) (w : WellFormed t) → tokensOf t ≡ map (mapped (back (w .chars))) (tokensOf (plain (w .chars)))

@@ -1,6 +1,6 @@
--- All statements, in the order of the demands and of the requests: proofs/Theorems.antt has a value of this record. That each call ends and that nothing in
--- it is undefined is what it means that the functions are proved; that the caller has nothing to check first, that they have no
--- `requires`.
+-- All statements, in the order of the demands and of the requests: proofs/Theorems.antt has a value of this record. That each call ends and
+-- that nothing in it is undefined is what it means that the functions are proved; that the caller has nothing to check first, that they
+-- have no `requires`.
 use Rattle.theorems.specs.CReading as C-reading
 use Rattle.theorems.specs.CSong as C-song
 use Rattle.theorems.specs.CTrips as C-trips

@@ -8,7 +8,7 @@ use borrow.Author.Needs.{needs}
 use Rattle.token.specs.Token.{rows}
 use Rattle.lexer.specs.Lexer.{wordHead}
 use Rattle.lexer.specs.Words.{words}
-use Rattle.lexer.proofs.Steps.{Cutting, went-start, step-head, step-place, cut-inside, cut-head, cut-step}
+use Rattle.lexer.proofs.Steps.{Cutting, went-start, step-asks, step-head, step-place, cut-inside, cut-head, cut-step}
 use Rattle.lexer.proofs.parse_string.Statement.{statement}
 use Rattle.lexer.proofs.parse_string.Tie as tie
 use Rattle.token.proofs.Rows.{rows-room}
@@ -41,16 +41,9 @@ emit-requires c κs =
     let turn = cut .before .before .before .before in
     let p = turn .before .before .before .before .before .pre .1 in
     let i = turn .loop .inv in
-    let f = i .0 .went .few in
     let l = cut .before .before .if1 .taken in
-    let e = cut .word-head .ensures ∙ ap wordHead (cut .before .word-by-ends .ensures) in
-    let n = cut-inside (i .0) l in
-    let w = step-head f n (cut-head (i .0) l e) in (
-      omega (arith, w .1, p .short),
-      f .among,
-      omega (arith, f .some, f .within, p .short),
-      omega (arith, f .some, n, i .1, i .2, i .3, p .room),
-    )
+    let h = cut-head (i .0) l (cut .word-head .ensures ∙ ap wordHead (cut .before .word-by-ends .ensures)) in
+    step-asks (i .0 .went .few) (cut-inside (i .0) l) h (p .short) (omega (arith, i .1, i .2, i .3, p .room))
 
 loop-less : tie.Need-loop-less Inv-loop μ-loop
 loop-less c =

@@ -4,7 +4,7 @@ use mathlib.Core.Path.{sym, _∙_}
 use native.Mathlib.Omega.{arith}
 use borrow.Author.Needs.{needs}
 use Rattle.lexer.proofs.Runs.{run-stop, run-turn}
-use Rattle.lexer.proofs.Steps.{step-head, step-went, step-place}
+use Rattle.lexer.proofs.Steps.{step-asks, step-head, step-went, step-place}
 use Rattle.lexer.proofs.scan_token.Statement.{statement}
 use Rattle.lexer.proofs.scan_token.Tie as tie
 use Rattle.token.proofs.Rows.{rows-room}
@@ -56,13 +56,7 @@ head-at-requires c κs =
 emit-requires : tie.Need-emit-requires
 emit-requires c κs =
     let p = c .before .before .before .before .before .before .before .before .before .before .before .pre in
-    let f = p .1 .few in
-    let w = step-head f (p .2) (c .head-at .ensures) in (
-      omega (arith, w .1, p .1 .short),
-      f .among,
-      omega (arith, f .some, f .within, p .1 .short),
-      omega (arith, f .some, p .2, p .1 .room),
-    )
+    step-asks (p .1 .few) (p .2) (c .head-at .ensures) (p .1 .short) (p .1 .room)
 
 same-length-4 : tie.Need-same-length-4
 same-length-4 c = search needs
