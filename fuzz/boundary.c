@@ -1,5 +1,6 @@
 /* Calls the functions of the library with random bytes, changed cards, song lines and changed records, with every list, buffer and line length around each
  * limit, and checks what the papers say of the lent memory: every lent piece stands between guard bytes, and what a call may not write is as it was.
+ * Blank texts of 0 to 300 spaces and the record of no chord, with any one byte changed, come first.
  * usage: boundary CALLS SEED. Prints how often each number came up; ends with status 1 at the first fault. */
 #include <stdint.h>
 #include <stdio.h>
@@ -66,6 +67,10 @@ static size_t near(size_t limit) { /* around a limit, or anything below and some
 
 static size_t text(uint8_t *t) {
   size_t n = 0, want = below(8) ? below(40) : near(256);
+  if (below(32) == 0) { /* spaces only */
+    memset(t, ' ', want);
+    return want;
+  }
   if (below(16) == 0) { /* random bytes */
     for (; n < want; n++) t[n] = (uint8_t)next();
     return n;
@@ -81,13 +86,24 @@ static size_t text(uint8_t *t) {
   return n;
 }
 
-static unsigned long reads[8], writes[8];
+static int is_blank(const uint8_t *t, size_t n) { /* at most 256 bytes, empty or spaces only */
+  for (size_t i = 0; i < n; i++)
+    if (t[i] != ' ') return 0;
+  return n <= 256;
+}
+
+/* Do 51 bytes hold no chord: no root, no bass, no intervals? What lies behind the count does not matter. */
+static int is_silent(const uint8_t *c) {
+  for (size_t i = 4; i < 28; i++)
+    if (c[i] != 0) return 0;
+  return c[0] == 255 && c[1] == 0 && c[2] == 255 && c[3] == 0;
+}
+
+static unsigned long reads[8], writes[8], silent_reads, silent_writes;
 static nophtris_chord last; /* the last record that was read */
 
-static void read_once(void) {
+static void read_text(const uint8_t *bytes, size_t n, size_t room) {
   static piece list, one, record, given;
-  static uint8_t bytes[512];
-  size_t n = text(bytes), room = below(8) ? 1028 + below(4) : near(1028);
   lend(&given, n);
   memcpy(given.now + GUARD, bytes, n);
   memcpy(given.before + GUARD, bytes, n);
@@ -100,6 +116,10 @@ static void read_once(void) {
   reads[r]++;
   if ((r == 1) != (room < 1028)) fault("1 is not the answer to a short list");
   if (r != 1 && (r == 2) != (n > 256)) fault("2 is not the answer to a long text");
+  int silent = r == 0 && is_silent(record.now + GUARD);
+  silent_reads += (unsigned)silent;
+  if (r != 1 && silent != is_blank(bytes, n)) fault("no chord is not the answer to a blank text");
+  if (r == 0 && !silent && record.now[GUARD] > 6) fault("a chord without a root was read");
   uint16_t count;
   memcpy(&count, one.now + GUARD, 2);
   kept(&one, r == 4 || r == 5 ? 2 : 0, "the count was written");
@@ -118,15 +138,17 @@ static void read_once(void) {
   if (r == 0) memcpy(&last, record.now + GUARD, sizeof last);
 }
 
-/* The spelling of a record that was read is written, and is read as the same record. */
-static void write_once(void) {
+static void read_once(void) {
+  static uint8_t bytes[512];
+  size_t n = text(bytes);
+  read_text(bytes, n, below(8) ? 1028 + below(4) : near(1028));
+}
+
+/* A record is written, or refused; its spelling is read as its four, and as the same bytes where these were read (`whole`). */
+static void write_record(const uint8_t *bytes, size_t room, int whole) {
   static piece record, buffer, one;
-  size_t room = below(8) ? 112 + below(4) : near(112);
   lend(&record, sizeof(nophtris_chord));
-  int whole = below(2);
-  if (whole || below(8)) memcpy(record.now + GUARD, &last, sizeof last);
-  if (!whole)
-    for (unsigned k = below(4); k < 4; k++) record.now[GUARD + below(51)] = below(2) ? (uint8_t)below(24) : (uint8_t)next();
+  memcpy(record.now + GUARD, bytes, sizeof(nophtris_chord));
   memcpy(record.before, record.now, sizeof record.now);
   lend(&buffer, room);
   lend(&one, 2);
@@ -136,16 +158,48 @@ static void write_once(void) {
   writes[r]++;
   if ((r == 6) != (room < 112)) fault("6 is not the answer to a short buffer");
   if (whole && r == 7) fault("a record that was read is refused");
+  if (bytes[0] == 255 && r != 6 && r != (is_silent(bytes) ? 0 : 7)) fault("a record without a root is written or refused wrongly");
   uint16_t length = 0;
   if (r == 0) memcpy(&length, one.now + GUARD, 2);
   kept(&one, r == 0 ? 2 : 0, "the length was written");
-  if (length > 112 || (r == 0 && length == 0)) fault("a length that cannot be");
+  if (length > 112 || (r == 0 && (length == 0) != (bytes[0] == 255))) fault("a length that cannot be");
   kept(&buffer, length, "the buffer was written behind the spelling");
   if (r != 0) return;
+  silent_writes += bytes[0] == 255;
   uint16_t errors[NOPHTRIS_ERRORS], count;
   nophtris_chord again;
   if (nophtris_read(buffer.now + GUARD, length, errors, NOPHTRIS_ERRORS, &count, &again) != 0) fault("the spelling is refused");
-  if (whole && memcmp(&again, &last, sizeof last) != 0) fault("the spelling reads as another record");
+  if (whole && memcmp(&again, bytes, sizeof again) != 0) fault("the spelling reads as another record");
+}
+
+static const uint8_t silence[51] = {255, 0, 255};
+
+static void write_once(void) {
+  uint8_t bytes[51];
+  size_t room = below(8) ? 112 + below(4) : near(112);
+  int whole = below(2);
+  if (whole || below(8)) memcpy(bytes, &last, sizeof last);
+  else if (below(2)) memcpy(bytes, silence, sizeof silence);
+  else
+    for (unsigned i = 0; i < sizeof bytes; i++) bytes[i] = (uint8_t)next();
+  if (!whole)
+    for (unsigned k = below(4); k < 4; k++) bytes[below(51)] = below(2) ? (uint8_t)below(24) : (uint8_t)next();
+  write_record(bytes, room, whole);
+}
+
+/* Texts of 0 to 300 spaces; the record of no chord with buffers around the limit, and with each byte changed to each value. */
+static void silences(void) {
+  uint8_t bytes[300];
+  memset(bytes, ' ', sizeof bytes);
+  for (size_t n = 0; n <= sizeof bytes; n++)
+    for (size_t room = 1027; room < 1030; room++) read_text(bytes, n, room);
+  for (size_t room = 109; room < 116; room++) write_record(silence, room, 1);
+  for (unsigned i = 0; i < sizeof silence; i++)
+    for (unsigned v = 0; v < 256; v++) {
+      memcpy(bytes, silence, sizeof silence);
+      bytes[i] = (uint8_t)v;
+      write_record(bytes, 112, 0);
+    }
 }
 
 /* A song line: texts with `|` between them, up to a length that is often near the limit, or bytes of which many are `|`. */
@@ -212,6 +266,7 @@ int main(int argc, char **argv) {
   unsigned long calls = argc > 1 ? strtoul(argv[1], NULL, 10) : 1000000;
   state = argc > 2 ? strtoull(argv[2], NULL, 10) : 1;
   uint16_t errors[NOPHTRIS_ERRORS], count;
+  silences();
   if (nophtris_read((const uint8_t *)"C", 1, errors, NOPHTRIS_ERRORS, &count, &last) != 0) fault("C is refused");
   for (call_number = 0; call_number < calls; call_number++)
     switch (call_number % 4) {
@@ -221,7 +276,8 @@ int main(int argc, char **argv) {
     }
   printf("%lu calls, seed %s, no fault\nreading:", calls, argc > 2 ? argv[2] : "1");
   for (int i = 0; i < 6; i++) printf(" %d: %lu", i, reads[i]);
-  printf("\nwriting: 0: %lu 6: %lu 7: %lu\nsteps:", writes[0], writes[6], writes[7]);
+  printf(" (no chord: %lu)\nwriting: 0: %lu (no chord: %lu) 6: %lu 7: %lu\n", silent_reads, writes[0], silent_writes, writes[6], writes[7]);
+  printf("steps:");
   for (int i = 0; i < 256; i++)
     if (steps[i]) printf(" %d: %lu", i, steps[i]);
   printf("\n");

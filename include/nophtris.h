@@ -31,7 +31,7 @@ extern "C" {
 
 /* The first number grows when a function or the struct changes its form, the second with a new function and with any other change of an answer. */
 #define NOPHTRIS_VERSION_MAJOR 1
-#define NOPHTRIS_VERSION_MINOR 2
+#define NOPHTRIS_VERSION_MINOR 3
 
 /* The answers. */
 #define NOPHTRIS_ACCEPTED 0     /* read: the struct is filled; written: the spelling stands in the buffer */
@@ -78,7 +78,9 @@ extern "C" {
 #define NOPHTRIS_INTERVAL_NAMES \
   { "1", "b2", "2", "b3", "3", "4", "#4", "b5", "5", "#5", "b6", "6", "bb7", "7", "Maj7", "8", "b9", "9", "#9", "11", "#11", "b13", "13" }
 
-/* A chord record: 51 bytes without padding. Any bytes may be handed over: values outside their ranges get NOPHTRIS_NO_TEXT. */
+/* A chord record: 51 bytes without padding. Any bytes may be handed over: values outside their ranges get NOPHTRIS_NO_TEXT.
+ * The record of no chord, which stops the reeds, has neither root nor bass, no member and the count 0; of those without a root it is the
+ * only one that some text has. */
 typedef struct {
   uint8_t root_letter;     /* C 0 .. B 6, 255 none */
   int8_t root_alteration;  /* flat -1, 0, sharp 1; 0 where there is no root */
@@ -98,19 +100,22 @@ typedef char nophtris_chord_is_51_bytes[sizeof(nophtris_chord) == 51 ? 1 : -1];
 #endif
 
 /* Reads a text of any bytes and any length. Since version 1.2 the raised numerals U+00B9, U+00B2, U+00B3, U+2070 and U+2074 to U+2079
- * count as their digits. The questions are asked in this order:
+ * count as their digits; since version 1.3 a text that is empty or spaces only is accepted as no chord (it got 4 before).
+ * The questions are asked in this order:
  *   1  NOPHTRIS_SHORT_LIST   the error list holds fewer than 1,028 numbers;
  *   2  NOPHTRIS_LONG_TEXT    the text has more than 256 bytes (a raised numeral has two or three);
  *   3  NOPHTRIS_NOT_UTF8     it is not UTF-8;
+ *   0  NOPHTRIS_ACCEPTED     it is empty or spaces only: the struct is the record of no chord, with NOPHTRIS_NONE for its root;
  *   4  NOPHTRIS_PARSE        parsing found errors; 5  NOPHTRIS_VALIDATION  validation did: `count` of them, 1 to 257, four numbers for each from the
  *                            beginning of the list on;
- *   0  NOPHTRIS_ACCEPTED     none of these: the struct is filled.
+ *   0  NOPHTRIS_ACCEPTED     none of these: the struct is filled, and has a root.
  * All else is left as it was: the list with 0 to 3 and behind the errors, `count` with 0 to 3, the struct with 1 to 5. */
 uint8_t nophtris_read(const uint8_t *text, size_t text_len, uint16_t *errors, size_t errors_len, uint16_t *count, nophtris_chord *chord);
 
 /* One step of a song line of any bytes, whose bars are split at each `|`: reads the bar that begins at `*position` and runs to the next `|` or the line's
  * end, as nophtris_read reads a text (positions in its errors count from the bar's first byte). Begin at position 0 and call until the answer is
- * NOPHTRIS_END or NOPHTRIS_LONG_LINE: a line of n bars takes n + 1 calls, and an empty line has one empty bar. Any position may be handed in.
+ * NOPHTRIS_END or NOPHTRIS_LONG_LINE: a line of n bars takes n + 1 calls, and an empty line has one empty bar.
+ * A blank bar is no chord. Any position may be handed in.
  *   8    NOPHTRIS_LONG_LINE  the line has more than 4,096 bytes: at each call, so that a loop has to stop here too;
  *   255  NOPHTRIS_END        the position lies above the line's length: at each call from there on;
  *   0 to 5                   the answer to the bar, with list, count and struct as nophtris_read leaves them. `*bar_from` and `*bar_len` say where the bar lies
@@ -123,6 +128,8 @@ uint8_t nophtris_step(const uint8_t *line, size_t line_len, size_t *position, ui
  *   6  NOPHTRIS_SHORT_BUFFER the buffer holds fewer than 112 bytes;
  *   7  NOPHTRIS_NO_TEXT      a value lies outside its range, or no accepted text has this root, bass, normalized set and display list;
  *   0  NOPHTRIS_ACCEPTED     neither: the first `length` bytes of the buffer are the spelling (1 to 112, no terminating zero).
+ *                            That of no chord is empty: its length is 0, and nothing is written to the buffer, which has to hold
+ *                            112 bytes all the same.
  * All else is left as it was: the buffer behind the spelling, and with 6 and 7 the whole buffer and `length`. */
 uint8_t nophtris_write(const nophtris_chord *chord, uint8_t *buffer, size_t buffer_len, uint16_t *length);
 

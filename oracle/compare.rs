@@ -2,7 +2,7 @@
 //!
 //! `compare TEXTS OURS ORACLE [MODE]`. In the listing, kind 3 is compared by the text of its priority, and any repeated
 //! one is accepted (the oracle names them in `listing repeats`). Texts with numerals that are neither ASCII nor raised are
-//! left out.
+//! left out. Blank texts, which document 02 accepts and the Rust refuses, are left aside: ours is held against the paper.
 //! Everything else must be equal byte for byte. Exit status 1 where there is a difference, 2 where there is no comparison.
 /// Which numerals are raised; the mapping is the oracle's.
 #[allow(dead_code)]
@@ -29,8 +29,17 @@ enum Verdict {
     Different,
 }
 
+/// What the lines are: the listing, spellings, or what one stage of the Rust makes of a text.
+#[derive(Clone, Copy, PartialEq)]
+enum Mode {
+    Listing,
+    Spelling,
+    Stage,
+}
+
 /// How many texts there were of each sort. Those in `not_least` are also in `equal` or `by_kind_3`. `raised` counts those with
-/// raised numerals about which the Rust was asked; they are in another count too.
+/// raised numerals about which the Rust was asked, and `blank` those that were left aside; a blank one with another answer than
+/// the paper's is in `different` too.
 #[derive(Default)]
 struct Counts {
     texts: usize,
@@ -38,6 +47,7 @@ struct Counts {
     by_kind_3: usize,
     not_least: usize,
     left_out: usize,
+    blank: usize,
     raised: usize,
     different: usize,
 }
@@ -74,6 +84,17 @@ fn asked(text: &[u8]) -> Option<&str> {
 fn left_out(text: &[u8]) -> bool {
     let numeral = |c: char| c.is_numeric() && !c.is_ascii_digit() && !raised::RAISED.contains(&c);
     asked(text).is_some_and(|text| text.contains(numeral))
+}
+
+/// The line that document 02 [4] has for a text that is empty or spaces only: no chord in the listing, the empty spelling. No
+/// stage knows of it.
+fn silence(mode: Mode, number: usize, text: &[u8]) -> Option<String> {
+    let blank = text.len() <= LONGEST && text.iter().all(|byte| *byte == b' ');
+    match mode {
+        Mode::Listing if blank => Some(format!("{number:4}   0  -1   0  -1   0   0   0")),
+        Mode::Spelling if blank => Some(String::new()),
+        _ => None,
+    }
 }
 
 /// The oracle's line and, where it names them, the priorities of the repeated expressions.
@@ -137,14 +158,14 @@ fn not_least(ours: &[u8], repeated: &[u8]) -> bool {
 }
 
 /// Compares our line with the oracle's, and tells whether ours names a kind 3 that is not the least.
-fn compare(listing: bool, ours: &[u8], oracle: &[u8]) -> (Verdict, bool) {
+fn compare(mode: Mode, ours: &[u8], oracle: &[u8]) -> (Verdict, bool) {
     if oracle == b"PANIC" {
         return (Verdict::Different, false);
     }
     if ours == oracle {
         return (Verdict::Equal, false);
     }
-    if !listing {
+    if mode != Mode::Listing {
         return (Verdict::Different, false);
     }
     let (oracle, repeated) = split_repeats(oracle);
@@ -175,7 +196,7 @@ fn has_more(lines: &mut Lines, name: &str) -> io::Result<bool> {
 }
 
 /// Compares the three files and prints the differences.
-fn run(texts: &str, ours: &str, oracle: &str, listing: bool) -> io::Result<Counts> {
+fn run(texts: &str, ours: &str, oracle: &str, mode: Mode) -> io::Result<Counts> {
     let (mut texts, mut ours, mut oracle) = (Lines::open(texts)?, Lines::open(ours)?, Lines::open(oracle)?);
     let mut counts = Counts::default();
     while let Some(text) = texts.next()? {
@@ -185,15 +206,18 @@ fn run(texts: &str, ours: &str, oracle: &str, listing: bool) -> io::Result<Count
             counts.left_out += 1;
             continue;
         }
+        let silence = silence(mode, counts.texts, text);
         counts.raised += usize::from(asked(text).is_some_and(raised::has_raised));
+        counts.blank += usize::from(silence.is_some());
         // A line that is missing is a difference.
-        let (verdict, not_least) = match (ours, oracle) {
-            (Some(ours), Some(oracle)) => compare(listing, ours, oracle),
+        let (verdict, not_least) = match (ours, oracle, &silence) {
+            (Some(ours), Some(_), Some(silence)) if ours == silence.as_bytes() => (Verdict::Equal, false),
+            (Some(ours), Some(oracle), None) => compare(mode, ours, oracle),
             _ => (Verdict::Different, false),
         };
         counts.not_least += usize::from(not_least);
         match verdict {
-            Verdict::Equal => counts.equal += 1,
+            Verdict::Equal => counts.equal += usize::from(silence.is_none()),
             Verdict::EqualByKind3 => counts.by_kind_3 += 1,
             Verdict::Different => {
                 counts.different += 1;
@@ -210,19 +234,20 @@ fn run(texts: &str, ours: &str, oracle: &str, listing: bool) -> io::Result<Count
 fn main() -> ExitCode {
     let arguments: Vec<String> = std::env::args().skip(1).collect();
     let arguments: Vec<&str> = arguments.iter().map(String::as_str).collect();
-    let (texts, ours, oracle, listing) = match arguments[..] {
-        [texts, ours, oracle] | [texts, ours, oracle, "listing"] => (texts, ours, oracle, true),
-        [texts, ours, oracle, "tokens" | "scan" | "parse" | "spelling"] => (texts, ours, oracle, false),
+    let (texts, ours, oracle, mode) = match arguments[..] {
+        [texts, ours, oracle] | [texts, ours, oracle, "listing"] => (texts, ours, oracle, Mode::Listing),
+        [texts, ours, oracle, "spelling"] => (texts, ours, oracle, Mode::Spelling),
+        [texts, ours, oracle, "tokens" | "scan" | "parse"] => (texts, ours, oracle, Mode::Stage),
         _ => {
             eprintln!("usage: compare TEXTS OURS ORACLE [listing | tokens | scan | parse | spelling]");
             return ExitCode::from(2);
         }
     };
-    match run(texts, ours, oracle, listing) {
-        Ok(Counts { texts, equal, by_kind_3, not_least, left_out, raised, different }) => {
+    match run(texts, ours, oracle, mode) {
+        Ok(Counts { texts, equal, by_kind_3, not_least, left_out, blank, raised, different }) => {
             println!(
                 "texts {texts} equal {equal} equal-by-kind-3 {by_kind_3} not-least {not_least} left-out {left_out} \
-                 raised {raised} different {different}"
+                 blank {blank} raised {raised} different {different}"
             );
             ExitCode::from(u8::from(different > 0))
         }

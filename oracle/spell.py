@@ -43,6 +43,8 @@ def parts(n, d):
 
 def spelling(v):
     root, bass, rest = v[2:4], v[4:6], v[6:]
+    if root[0] < 0:
+        return ""  # no chord, by document 02 [4]
     n = {NAMES[i] for i in rest[1 : 1 + rest[0]]}
     rest = rest[1 + rest[0] :]
     d = {NAMES[i] for i in rest[1 : 1 + rest[0]]}

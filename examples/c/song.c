@@ -1,4 +1,4 @@
-/* Reads each argument as a song line, bar by bar, and prints each bar's house spelling, or the number of its refusal. */
+/* Reads each argument as a song line, bar by bar, and prints of each bar its house spelling, no chord, or the number of its refusal. */
 #include <stdio.h>
 #include <string.h>
 
@@ -7,7 +7,9 @@
 static void bar(const char *text, size_t len, uint8_t number, const nophtris_chord *chord) {
   uint8_t buffer[NOPHTRIS_BUFFER];
   uint16_t length = 0;
-  if (number == NOPHTRIS_ACCEPTED && nophtris_write(chord, buffer, sizeof buffer, &length) == NOPHTRIS_ACCEPTED)
+  if (number == NOPHTRIS_ACCEPTED && chord->root_letter == NOPHTRIS_NONE)
+    printf("  no chord\n");
+  else if (number == NOPHTRIS_ACCEPTED && nophtris_write(chord, buffer, sizeof buffer, &length) == NOPHTRIS_ACCEPTED)
     printf("  %.*s: %.*s\n", (int)len, text, (int)length, (const char *)buffer);
   else
     printf("  %.*s: refused with %d\n", (int)len, text, number);

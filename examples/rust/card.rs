@@ -1,9 +1,11 @@
-//! Reads each argument as a card, or as a song line where it has a `|`, and prints the house spelling of each text, or what refused it.
+//! Reads each argument as a card, or as a song line where it has a `|`, and prints the house spelling of each text, that it is no chord, or
+//! what refused it.
 mod nophtris;
 
 fn card(text: &[u8], read: Result<nophtris::Chord, nophtris::Refusal>) {
     let text = String::from_utf8_lossy(text);
     match read {
+        Ok(nophtris::Chord::NONE) => println!("no chord"),
         Ok(chord) => println!("{text}: {}", nophtris::write(&chord).expect("an accepted text has a spelling")),
         Err(refusal) => println!("{text}: {refusal:?}"),
     }

@@ -24,7 +24,8 @@ pub struct Chord {
 const _: () = assert!(size_of::<Chord>() == 51);
 
 impl Chord {
-    const NONE: Chord = Chord {
+    /// No chord, which a blank text is read as: the reeds stop.
+    pub const NONE: Chord = Chord {
         root_letter: 255,
         root_alteration: 0,
         bass_letter: 255,

@@ -15,6 +15,18 @@ use Rattle.house_parts.specs.Question.{all, sameList}
 use Rattle.house_parts.proofs.Bools.{and-left, and-right, both-pass}
 use Rattle.validator.proofs.Choices.{Away, not-elem}
 
+-- two tests that pass together
+pub same-answer : (a b : Bool) → (a ≡ true → b ≡ true) → (b ≡ true → a ≡ true) → a ≡ b
+same-answer true true f g = refl
+same-answer true false f g = sym (f refl)
+same-answer false true f g = g refl
+same-answer false false f g = refl
+
+-- a test that passed
+pub passed : (b : Bool) → T b → b ≡ true
+passed true t = refl
+passed false t = absurd t
+
 -- ---- equal lists
 
 pub same-lists : (l m : List ℕ) → T (sameList l m) → l ≡ m
@@ -29,13 +41,9 @@ same-self (x ∷ l) = both-pass (eqb x x) (sameList l l) (eqb-refl x) (same-self
 
 -- an answer that is true exactly when they are equal
 pub same-test : (r : Bool) (l m : List ℕ) → (r ≡ true) ↔ (l ≡ m) → r ≡ sameList l m
-same-test r l m f = by r (sameList l m) (λ e. subst (λ (x : List ℕ). T (sameList l x)) (f .0 e) (same-self l)) (λ t. f .1 (same-lists l m t))
-  where
-    by : (r s : Bool) → (r ≡ true → T s) → (T s → r ≡ true) → r ≡ s
-    by true true g h = refl
-    by true false g h = absurd (g refl)
-    by false true g h = h tt
-    by false false g h = refl
+same-test r l m f =
+    let same : l ≡ m → T (sameList l m) = λ e. subst (λ (x : List ℕ). T (sameList l x)) e (same-self l) in
+    same-answer r (sameList l m) (λ e. passed (sameList l m) (same (f .0 e))) (λ e. f .1 (same-lists l m (subst T (sym e) tt)))
 
 -- ---- one step along a list
 

@@ -1,11 +1,11 @@
 -- "Has some accepted text exactly these four?", as a test: a root, no members outside the table, the 15 clauses of the set N and K,
--- validation's own test of the set, and the display list that N and K give.
-use mathlib.Core.Bool.{Bool, true, false, not, _&&_}
+-- validation's own test of the set, and the display list that N and K give; or no root and nothing else.
+use mathlib.Core.Bool.{Bool, true, false, not, cond, _&&_}
 use mathlib.Core.List.{List, [], _∷_}
-use Prim.Native.Nat.{ℕ}
+use Prim.Native.Nat.{ℕ, _+_}
 use lib.Dec.{eqb}
 use Rattle.chord.specs.Chord.{Four}
-use Rattle.intervals.specs.Stored.{within}
+use Rattle.intervals.specs.Stored.{noneFrom, outside, within}
 use Rattle.intervals.specs.Interval.{Set, unison, minorSecond, minorThird, majorThird, augmentedFourth, diminishedFifth, perfectFifth, augmentedFifth, majorSixth, diminishedSeventh, octave, flatNinth, ninth, eleventh, sharpEleventh, flatThirteenth, thirteenth}
 use Rattle.validator.specs.Validator.{setValid}
 use Rattle.house_parts.specs.House.{displayBy, isFlat2, isSecond, isSharp4, isSome, isSus, kindIn}
@@ -52,7 +52,14 @@ sameList (x ∷ l) (y ∷ m) = eqb x y && sameList l m
 abbrev pub realizableBy : SusKind → Set → List ℕ → Bool
 realizableBy k n d = all (clauses n k) && (setValid n && sameList d (displayBy k n))
 
--- writer `Answers` (`decided`) has that it is so of a record exactly when there is such a text
+-- no bass and no intervals
+abbrev pub nothingElse : Four → Bool
+nothingElse f = not (isSome (f .bass)) && (noneFrom 0 (23 + outside) (f .normalized) && sameList (f .display) [])
+
+-- "the record without a root and with nothing else is the one" that the empty spelling comes from (document 02 [4]). Writer `Answers`
+-- (`decided`) has that it is so of a record exactly when there is such a text.
 abbrev pub realizable : Four → Bool
 realizable f =
-    isSome (f .root) && (within (f .normalized) && realizableBy (kindIn (f .normalized) (f .display)) (f .normalized) (f .display))
+    cond (isSome (f .root))
+    (within (f .normalized) && realizableBy (kindIn (f .normalized) (f .display)) (f .normalized) (f .display))
+    (nothingElse f)

@@ -1,5 +1,5 @@
 // Has some accepted text exactly a record's four? A root, no members outside the table, the clauses of its set and K, validation's own test
-// of the set, and the display list that they give.
+// of the set, and the display list that they give; or no root and nothing else.
 ghost use mathlib.Core.Bool.{true};
 ghost use mathlib.Core.Path.{_≡_};
 ghost use Prim.Native.Nat.{_<_};
@@ -112,7 +112,7 @@ fn is_some(note: OptionalNote) -> bool
     }
 }
 
-// The question, of any record.
+// The question, of any record. One without a root has a text if it is the record of no chord.
 pub fn is_realizable(chord: Chord) -> bool
     ensures { λ r. ⌜ r ≡ realizable (fourOf chord) ⌝ }
 {
@@ -120,7 +120,7 @@ pub fn is_realizable(chord: Chord) -> bool
     let set = chord.normalized;
     let list = chord.display;
     if !is_some(root) {
-        return false;
+        return chord.same(Chord::new());
     }
     if !set.is_within() {
         return false;

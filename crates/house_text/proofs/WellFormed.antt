@@ -26,17 +26,17 @@ use Rattle.house_text.proofs.Piecewise.{Piece, piece, pieces}
 use Rattle.house_text.proofs.TextLemma.{Form, plain, minor, diminished, formOf, formText, headText, textOf, bassText, spelled}
 
 -- are all bytes below 128?
-abbrev low : List ℕ → Bool
+abbrev pub low : List ℕ → Bool
 low [] = true
 low (b ∷ s) = ltb b 128 && low s
 
 -- the first of two that hold
-and-left : (a b : Bool) → a && b ≡ true → a ≡ true
+pub and-left : (a b : Bool) → a && b ≡ true → a ≡ true
 and-left true b h = refl
 and-left false b h = h
 
 -- the second of two that hold
-and-right : (a b : Bool) → a && b ≡ true → b ≡ true
+pub and-right : (a b : Bool) → a && b ≡ true → b ≡ true
 and-right true b h = h
 and-right false b h = absurd (true≢false (sym h))
 
@@ -48,7 +48,7 @@ low-char b s h =
     ap (λ (l : List ℕ). charOf (l ++ s)) (sym e) ∙ charOf-encode b s (low-scalar b (omega arith)) ∙ ap (λ (l : List ℕ). Char b (length l)) e
 
 -- such bytes are well formed
-low-well : (s : List ℕ) → low s ≡ true → wellFormed s ≡ true
+pub low-well : (s : List ℕ) → low s ≡ true → wellFormed s ≡ true
 unfolding wellFrom
 low-well [] h = refl
 low-well (b ∷ s) h =

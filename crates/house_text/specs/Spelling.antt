@@ -74,7 +74,7 @@ written (part c e ∷ ps) (t ∷ ts) = cond c t [] ++ written ps ts
 abbrev pub spell : Note → OptionalNote → Set → SusKind → List ℕ
 spell root bass n k = noteText root ++ written (parts (λ i. 0) bass n k) (texts bass)
 
--- "its house spelling is what the rules under that heading make of these four"; a record without a root has none
+-- "its house spelling is what the rules under that heading make of these four"; of no chord "the empty text" (document 02 [4])
 abbrev pub houseBy : OptionalNote → Four → List ℕ
 houseBy (Some r) f = spell r (f .bass) (f .normalized) (kindIn (f .normalized) (f .display))
 houseBy None f = []

@@ -13,7 +13,7 @@ use Rattle.expression.specs.declared.parser_error.ParserError.{ParserError}
 use Rattle.parser.specs.Parser.{parseOf, rootOf}
 use Rattle.utf8.specs.Utf8.{wellFormed}
 use Rattle.validator.specs.Validator.{validationOf}
-use Rattle.reader.specs.Reader.{ReadOutcome, accepted, answerTo, found, judge, parsed, readOf, refused, tokensIn}
+use Rattle.reader.specs.Reader.{ReadOutcome, accepted, answerTo, found, isBlank, judge, parsed, readOf, refused, silent, tokensIn}
 
 -- ---- from the questions to the outcome
 
@@ -27,21 +27,25 @@ module _ (room : ℕ) (text : List ℕ) where
   long-list h = ap (λ (b : Bool). cond b (refused 1) (answerTo text)) (le-ltb room 1028 h)
 
 module _ (text : List ℕ) where
-  -- the two questions of a text
-  abbrev asked : Bool → Bool → ReadOutcome
-  asked b c = cond b (refused 2) (cond c (parsed (tokensIn text)) (refused 3))
+  -- the three questions of a text
+  abbrev asked : Bool → Bool → Bool → ReadOutcome
+  asked b c d = cond b (refused 2) (cond c (cond d silent (parsed (tokensIn text))) (refused 3))
 
   pub long-text : 256 < length text → answerTo text ≡ refused 2
   unfolding answerTo
-  long-text h = ap (λ (b : Bool). asked b (wellFormed text)) (lt-ltb 256 (length text) h)
+  long-text h = ap (λ (b : Bool). asked b (wellFormed text) (isBlank text)) (lt-ltb 256 (length text) h)
 
   pub not-utf8 : length text ≤ 256 → wellFormed text ≡ false → answerTo text ≡ refused 3
   unfolding answerTo
-  not-utf8 h u = λ i. asked (le-ltb 256 (length text) h i) (u i)
+  not-utf8 h u = λ i. asked (le-ltb 256 (length text) h i) (u i) (isBlank text)
 
-  pub is-text : length text ≤ 256 → wellFormed text ≡ true → answerTo text ≡ parsed (tokensIn text)
+  pub is-blank : length text ≤ 256 → wellFormed text ≡ true → isBlank text ≡ true → answerTo text ≡ silent
   unfolding answerTo
-  is-text h u = λ i. asked (le-ltb 256 (length text) h i) (u i)
+  is-blank h u b = λ i. asked (le-ltb 256 (length text) h i) (u i) (b i)
+
+  pub is-text : length text ≤ 256 → wellFormed text ≡ true → isBlank text ≡ false → answerTo text ≡ parsed (tokensIn text)
+  unfolding answerTo
+  is-text h u b = λ i. asked (le-ltb 256 (length text) h i) (u i) (b i)
 
   -- ---- and back
 
@@ -54,27 +58,33 @@ module _ (text : List ℕ) where
   abbrev validationErrors : List ParserError
   validationErrors = validationOf expsIn (evalSet expsIn)
 
-  -- which question got no, with the outcome that it makes; the last is an accepted text
+  -- which question got no, with the outcome that it makes; a blank text; and the last is any other accepted one
   pub data Way : ReadOutcome → Type 0 where
     long : 256 < length text → Way (refused 2)
     bytes : length text ≤ 256 → wellFormed text ≡ false → Way (refused 3)
-    parse : {x : ParserError} {e : List ParserError} → length text ≤ 256 → wellFormed text ≡ true → parseErrors ≡ x ∷ e → Way (found 4 (x ∷ e))
-    validation : {x : ParserError} {e : List ParserError} → length text ≤ 256 → wellFormed text ≡ true → parseErrors ≡ [] → validationErrors ≡ x ∷ e
-        → Way (found 5 (x ∷ e))
-    accept : length text ≤ 256 → wellFormed text ≡ true → parseErrors ≡ [] → validationErrors ≡ []
+    blank : length text ≤ 256 → wellFormed text ≡ true → isBlank text ≡ true → Way silent
+    parse : {x : ParserError} {e : List ParserError} → length text ≤ 256 → wellFormed text ≡ true → isBlank text ≡ false
+        → parseErrors ≡ x ∷ e → Way (found 4 (x ∷ e))
+    validation : {x : ParserError} {e : List ParserError} → length text ≤ 256 → wellFormed text ≡ true → isBlank text ≡ false
+        → parseErrors ≡ [] → validationErrors ≡ x ∷ e → Way (found 5 (x ∷ e))
+    accept : length text ≤ 256 → wellFormed text ≡ true → isBlank text ≡ false → parseErrors ≡ [] → validationErrors ≡ []
         → Way (accepted (rootOf (tokensIn text)) expsIn)
 
   pub way : Way (answerTo text)
   unfolding answerTo
-  way = by (ltb 256 (length text)) (wellFormed text) parseErrors validationErrors refl refl refl refl
+  way = by (ltb 256 (length text)) (wellFormed text) (isBlank text) parseErrors validationErrors refl refl refl refl refl
     where
-      by : (b c : Bool) (e d : List ParserError) → ltb 256 (length text) ≡ b → wellFormed text ≡ c → parseErrors ≡ e → validationErrors ≡ d
-          → Way (cond b (refused 2) (cond c (judge e 4 (judge d 5 (accepted (rootOf (tokensIn text)) expsIn))) (refused 3)))
-      by true c e d q u p v = long (ltb-true 256 (length text) q)
-      by false false e d q u p v = bytes (ltb-false 256 (length text) q) u
-      by false true (x ∷ e) d q u p v = parse (ltb-false 256 (length text) q) u p
-      by false true [] (x ∷ d) q u p v = validation (ltb-false 256 (length text) q) u p v
-      by false true [] [] q u p v = accept (ltb-false 256 (length text) q) u p v
+      outcome : List ParserError → List ParserError → ReadOutcome
+      outcome e d = judge e 4 (judge d 5 (accepted (rootOf (tokensIn text)) expsIn))
+
+      by : (l c b : Bool) (e d : List ParserError) → ltb 256 (length text) ≡ l → wellFormed text ≡ c → isBlank text ≡ b → parseErrors ≡ e
+          → validationErrors ≡ d → Way (cond l (refused 2) (cond c (cond b silent (outcome e d)) (refused 3)))
+      by true c b e d q u s p v = long (ltb-true 256 (length text) q)
+      by false false b e d q u s p v = bytes (ltb-false 256 (length text) q) u
+      by false true true e d q u s p v = blank (ltb-false 256 (length text) q) u s
+      by false true false (x ∷ e) d q u s p v = parse (ltb-false 256 (length text) q) u s p
+      by false true false [] (x ∷ d) q u s p v = validation (ltb-false 256 (length text) q) u s p v
+      by false true false [] [] q u s p v = accept (ltb-false 256 (length text) q) u s p v
 
 -- the first question, with what it makes of the rest
 pub data Asked (room : ℕ) (text : List ℕ) : ReadOutcome → Type 0 where

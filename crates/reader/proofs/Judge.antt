@@ -62,11 +62,11 @@ untouched n {es} {es′} z d =
     let e : 4 * n ≡ 0 = omega (arith, z) in
     subst (λ (j : ℕ). drop j es′ ≡ drop j es) e d
 
--- a question got no, and the outcome is a refusal without errors
-pub gave-refused : {o : ReadOutcome} {k : ℕ} {a : Answer} {r : Reading} (es : List ℕ) → o ≡ refused k → numberOf a ≡ k → countOf a ≡ 0
+-- no chord and no errors: a question got no, or the text is blank (`silent` is `refused 0`)
+pub gave-no-chord : {o : ReadOutcome} {k : ℕ} {a : Answer} {r : Reading} (es : List ℕ) → o ≡ refused k → numberOf a ≡ k → countOf a ≡ 0
     → r .answer ≡ a
     → fourOf (r .chord) ≡ noChord → r .chord ≡ recordOf noChord → ReadGave o r es es
-gave-refused {o} {k} {a} {r} es e n m h c w =
+gave-no-chord {o} {k} {a} {r} es e n m h c w =
     subst (λ (x : ReadOutcome). ReadGave x r es es) (sym e)
     (record { number = ap numberOf h ∙ n; count = ap countOf h ∙ m; four = c; chord = w; list = refl })
 

@@ -1,9 +1,9 @@
--- Reading a card: the five questions of document 01, in their order, over the definitions of the layers.
-use mathlib.Core.Bool.{cond}
+-- Reading a card: the five questions of document 01, in their order, and document 02's blank texts, over the definitions of the layers.
+use mathlib.Core.Bool.{Bool, true, cond, _&&_}
 use mathlib.Core.List.{List, [], _∷_}
 use mathlib.Core.Path.{_≡_}
 use Prim.Native.Nat.{ℕ}
-use lib.Dec.{ltb}
+use lib.Dec.{eqb, ltb}
 use lib.ListN.{length}
 use Rattle.chord.specs.Chord.{Four, noChord}
 use Rattle.note.specs.declared.OptionalNote.{OptionalNote}
@@ -77,17 +77,28 @@ parsed ts = judge (parseOf ts .errs) 4 (validated (rootOf ts) (parseOf ts .exps)
 abbrev pub tokensIn : List ℕ → List Token
 tokensIn text = preProcess (tokensOf text)
 
+-- "empty or spaces only" (document 02 [4]); 20 hexadecimal is the space
+unfoldable pub isBlank : List ℕ → Bool
+isBlank [] = true
+isBlank (b ∷ text) = eqb b 0x20 && isBlank text
+
+-- "accepted as no chord: no root, no bass, no intervals"
+abbrev pub silent : ReadOutcome
+silent = record { number = 0; count = 0; four = noChord; errs = [] }
+
 -- the answer to a text, "given an error list that is long enough": "Is the text at most 256 bytes? No: 2. Is it UTF-8 by RFC 3629 ..? No:
--- 3."
+-- 3." Then "A text of at most 256 bytes that is empty or spaces only is accepted as no chord", and any other is parsed.
 unfoldable pub answerTo : List ℕ → ReadOutcome
-answerTo text = cond (ltb 256 (length text)) (refused 2) (cond (wellFormed text) (parsed (tokensIn text)) (refused 3))
+answerTo text =
+    cond (ltb 256 (length text)) (refused 2)
+    (cond (wellFormed text) (cond (isBlank text) silent (parsed (tokensIn text))) (refused 3))
 
 -- "Does the list hold at least 1,028 numbers? No: 1."
 unfoldable pub readOf : ℕ → List ℕ → ReadOutcome
 readOf room text = cond (ltb room 1028) (refused 1) (answerTo text)
 
 -- "A text is accepted when each question put to a card gets yes, given an error list that is long enough. Its four are the root, slash
--- bass or none, normalized set and display list that the rules below give it"
+-- bass or none, normalized set and display list that the rules below give it"; a blank text is accepted too, with no chord for its four
 pub record IsAccepted (t : List ℕ) (f : Four) : Type 0 where
   pub number : answerTo t .number ≡ 0
   pub four : answerTo t .four ≡ f

@@ -1,4 +1,4 @@
-// Reading a card: the five questions, in the paper's order.
+// Reading a card: the five questions, in the paper's order, and blank texts before the last two.
 ghost use mathlib.Core.List.{map};
 ghost use mathlib.Core.Path.{_≡_};
 ghost use Prim.Native.Nat.{_+_, _≤_};
@@ -8,7 +8,7 @@ ghost use Rattle.expression.specs.Expression.{expOf};
 ghost use Rattle.evaluator.specs.State.{Sounds};
 ghost use Rattle.parser.specs.State.{Tokens};
 ghost use Rattle.token.specs.Token.{Room, rows};
-ghost use Rattle.reader.specs.Reader.{parsed, tokensIn, validated};
+ghost use Rattle.reader.specs.Reader.{isBlank, parsed, tokensIn, validated};
 ghost use Rattle.reader.specs.State.{ReadGave, Read, Tokenized};
 use chord::Chord;
 use note::OptionalNote;
@@ -23,14 +23,14 @@ pub enum Answer {
     Validation(u16),
 }
 
-// The answer, and the record of an accepted text; any other text gets the record without a root.
+// The answer, and the record of an accepted text; a text that is refused gets the record of no chord, as a blank one does.
 pub struct Reading {
     pub answer: Answer,
     pub chord: Chord,
 }
 
 // An answer with the record of no chord.
-fn refuse(answer: Answer) -> Reading
+fn no_chord(answer: Answer) -> Reading
     ensures { λ r. ⌜ (r .answer ≡ answer) × (fourOf (r .chord) ≡ noChord) × (r .chord ≡ recordOf noChord) ⌝ }
 {
     Reading {
@@ -48,7 +48,7 @@ fn evaluate(root: OptionalNote, exps: &[u32], errs: &mut [u16]) -> Reading
     let set = e.set;
     let n = validator::validate(exps, set, errs);
     if 0 < n {
-        return refuse(Answer::Validation(n as u16));
+        return no_chord(Answer::Validation(n as u16));
     }
     let bass = e.bass;
     let display = e.display;
@@ -73,7 +73,7 @@ fn parse(kinds: &[u8], poss: &[u16], lens: &[u16], errs: &mut [u16]) -> Reading
     let ast = parser::parser::parse(kinds, poss, lens, errs, &mut exps);
     let n = ast.errors;
     if 0 < n {
-        return refuse(Answer::Parse(n as u16));
+        return no_chord(Answer::Parse(n as u16));
     }
     let root = ast.root;
     let m = ast.exps;
@@ -89,7 +89,21 @@ fn tokenize(text: &[u8], kinds: &mut [u8], poss: &mut [u16], lens: &mut [u16]) -
     folding::pre_process(kinds, poss, lens, n)
 }
 
-// The answer to a text of at most 256 bytes that is UTF-8.
+// Is a text empty, or spaces only?
+fn is_blank(text: &[u8]) -> bool
+    ensures { λ r. ⌜ r ≡ isBlank (now (text .entry)) ⌝ }
+{
+    let mut i = 0;
+    while i < text.len() {
+        if text[i] != b' ' {
+            return false;
+        }
+        i += 1;
+    }
+    true
+}
+
+// The answer to a text of at most 256 bytes that is UTF-8 and not blank.
 fn read_text(text: &[u8], errs: &mut [u16]) -> Reading
     requires { ⌜ (length (now text) ≤ 256) × (1028 ≤ length (now errs)) ⌝ }
     ensures { λ r. ⌜ ReadGave (parsed (tokensIn (now (text .entry)))) r (now (errs .entry)) (now (errs .exit)) ⌝ }
@@ -106,13 +120,16 @@ pub fn read(text: &[u8], errs: &mut [u16]) -> Reading
     ensures { λ r. ⌜ Read (now (text .entry)) (now (errs .entry)) (now (errs .exit)) r ⌝ }
 {
     if errs.len() < 1028 {
-        return refuse(Answer::ShortList);
+        return no_chord(Answer::ShortList);
     }
     if 256 < text.len() {
-        return refuse(Answer::LongText);
+        return no_chord(Answer::LongText);
     }
     if !utf8::well_formed(text) {
-        return refuse(Answer::NotUtf8);
+        return no_chord(Answer::NotUtf8);
+    }
+    if is_blank(text) {
+        return no_chord(Answer::Accepted);
     }
     read_text(text, errs)
 }

@@ -1,7 +1,8 @@
 // Every record that some accepted text has, written and read back. For each of the 2^23 sets of intervals and each K the record with that
 // set and the display list that they give is put the writer's question; where it is yes, the record is written with every root and every
-// bass, and its spelling is read. Printed: how many pairs of set and display list have a text, how many texts were read, how many of
-// these were refused or read as another four, and the length of the longest.
+// bass, and its spelling is read. Without a root the question is put with every bass and with none. Printed: how many pairs of set and
+// display list have a text with a root, how many records have one without, how many texts were read, how many of these were refused or
+// read as another four, and the length of the longest.
 use chord::Chord;
 use intervals::IntervalList;
 use intervals::IntervalSet;
@@ -12,6 +13,7 @@ const STDOUT: i32 = 1;
 
 struct Counts {
     pairs: u64,
+    rootless: u64,
     texts: u64,
     wrong: u64,
     longest: usize,
@@ -44,32 +46,41 @@ fn reads_as(text: &[u8], chord: Chord, errs: &mut [u16]) -> bool {
     }
 }
 
-// The length of the record's spelling, if this reads as the record's four; 0 otherwise.
-fn read_back(chord: Chord, buffer: &mut [u8], errs: &mut [u16]) -> usize {
+// Whether a record was written and its spelling reads as its four, and how long this is.
+struct Back {
+    same: bool,
+    len: usize,
+}
+
+fn read_back(chord: Chord, buffer: &mut [u8], errs: &mut [u16]) -> Back {
+    let wrong = Back {
+        same: false,
+        len: 0,
+    };
     match writer::write(chord, buffer) {
         writer::Answer::Spelled(n) => {
             if buffer.len() < n {
-                return 0;
+                return wrong;
             }
-            if reads_as(&buffer[..n], chord, errs) {
-                return n;
+            Back {
+                same: reads_as(&buffer[..n], chord, errs),
+                len: n,
             }
-            0
         }
-        writer::Answer::ShortBuffer => 0,
-        writer::Answer::NoText => 0,
+        writer::Answer::ShortBuffer => wrong,
+        writer::Answer::NoText => wrong,
     }
 }
 
-// One more text, of n bytes, or one more wrong.
-fn counted(c: Counts, n: usize) -> Counts {
+// One more text, and one more wrong where it is not the same.
+fn counted(c: Counts, b: Back) -> Counts {
     let mut d = c;
     d.texts = more(c.texts);
-    if n == 0 {
+    if !b.same {
         d.wrong = more(c.wrong);
     }
-    if c.longest < n {
-        d.longest = n;
+    if c.longest < b.len {
+        d.longest = b.len;
     }
     d
 }
@@ -119,12 +130,40 @@ fn with_roots(
 }
 
 fn one_pair(c: Counts) -> Counts {
-    Counts {
-        pairs: more(c.pairs),
-        texts: c.texts,
-        wrong: c.wrong,
-        longest: c.longest,
+    let mut d = c;
+    d.pairs = more(c.pairs);
+    d
+}
+
+fn one_rootless(c: Counts) -> Counts {
+    let mut d = c;
+    d.rootless = more(c.rootless);
+    d
+}
+
+// A record without a root, if it has a text.
+fn with_rootless(c: Counts, chord: Chord, buffer: &mut [u8], errs: &mut [u16]) -> Counts {
+    if writer::has_text(chord) {
+        return counted(one_rootless(c), read_back(chord, buffer, errs));
     }
+    c
+}
+
+// The record without a root, with every bass and none.
+fn without_root(
+    c: Counts,
+    set: IntervalSet,
+    list: IntervalList,
+    buffer: &mut [u8],
+    errs: &mut [u16],
+) -> Counts {
+    let mut d = c;
+    let mut bass = 0;
+    while bass < 22 {
+        d = with_rootless(d, record(set, list, 21, bass), buffer, errs);
+        bass += 1;
+    }
+    d
 }
 
 // The set with a display list.
@@ -135,10 +174,11 @@ fn with_list(
     buffer: &mut [u8],
     errs: &mut [u16],
 ) -> Counts {
+    let d = without_root(c, set, list, buffer, errs);
     if writer::has_text(record(set, list, 0, 21)) {
-        return with_roots(one_pair(c), set, list, buffer, errs);
+        return with_roots(one_pair(d), set, list, buffer, errs);
     }
-    c
+    d
 }
 
 // The set with the display list of a first sus k, where it is not that of none.
@@ -181,6 +221,7 @@ fn with_lists(c: Counts, set: IntervalSet, buffer: &mut [u8], errs: &mut [u16]) 
 fn every_set(buffer: &mut [u8], errs: &mut [u16]) -> Counts {
     let mut c = Counts {
         pairs: 0,
+        rootless: 0,
         texts: 0,
         wrong: 0,
         longest: 0,
@@ -205,6 +246,8 @@ fn main() {
     let c = every_set(&mut buffer, &mut errs);
     print_number(c.pairs);
     io::write_all(STDOUT, b" pairs of set and display list\n");
+    print_number(c.rootless);
+    io::write_all(STDOUT, b" without a root\n");
     print_number(c.texts);
     io::write_all(STDOUT, b" texts\n");
     print_number(c.wrong);

@@ -41,15 +41,17 @@ fn put_modifier(m: RootModifier) {
     }
 }
 
-fn put_note(note: OptionalNote) {
-    match note {
+fn put_note(note: Note) {
+    let l = note.literal;
+    let m = note.modifier;
+    put_letter(l);
+    put_modifier(m);
+}
+
+fn put_bass(bass: OptionalNote) {
+    match bass {
         OptionalNote::None => put(b"none"),
-        OptionalNote::Some(n) => {
-            let l = n.literal;
-            let m = n.modifier;
-            put_letter(l);
-            put_modifier(m);
-        }
+        OptionalNote::Some(n) => put_note(n),
     }
 }
 
@@ -116,19 +118,14 @@ fn put_classes(classes: Classes) {
     }
 }
 
-fn put_sound(root: OptionalNote, bass: OptionalNote, set: IntervalSet) {
+fn put_sound(root: Note, bass: OptionalNote, set: IntervalSet) {
     let none = Classes { sound: [false; 12] };
-    match root {
-        OptionalNote::None => put(b" none"),
-        OptionalNote::Some(n) => {
-            let c = with_set(none, set, n);
-            put_classes(with_bass(c, bass));
-        }
-    }
+    let c = with_set(none, set, root);
+    put_classes(with_bass(c, bass));
 }
 
-pub(crate) fn put_chord(text: &[u8], chord: Chord) {
-    let root = chord.root;
+// The line of a chord, which has a root.
+fn put_rooted(text: &[u8], root: Note, chord: Chord) {
     let bass = chord.bass;
     let set = chord.normalized;
     put_text(text);
@@ -137,10 +134,19 @@ pub(crate) fn put_chord(text: &[u8], chord: Chord) {
     put(b"; root ");
     put_note(root);
     put(b"; bass ");
-    put_note(bass);
+    put_bass(bass);
     put(b"; intervals");
     put_intervals(set);
     put(b"; pitch classes");
     put_sound(root, bass, set);
     put(b"\n");
+}
+
+// A blank text is no chord, and has nothing else to show.
+pub(crate) fn put_chord(text: &[u8], chord: Chord) {
+    let root = chord.root;
+    match root {
+        OptionalNote::None => put(b"no chord: the reeds stop\n"),
+        OptionalNote::Some(n) => put_rooted(text, n, chord),
+    }
 }

@@ -1,7 +1,8 @@
 // For people: reads texts, from the arguments or else from the lines of standard input, and prints for each its house spelling, root,
-// bass, intervals by name and the pitch classes that sound (C 0 to B 11, with the bass); for a refused text each error in plain words,
-// with a caret under its place in the text. A text with a `|` is a song line, and each of its bars is shown so, below its number. A line
-// is kept up to its 4,098th byte: one that is cut has more than 4,096 without a carriage return too. A `|` behind them is not looked for.
+// bass, intervals by name and the pitch classes that sound (C 0 to B 11, with the bass); for a blank text that there is no chord; for a
+// refused text each error in plain words, with a caret under its place in the text. A text with a `|` is a song line, and each of its bars
+// is shown so, below its number. A line is kept up to its 4,098th byte: one that is cut has more than 4,096 without a carriage return too.
+// A `|` behind them is not looked for.
 ghost use Prim.Native.Nat.{_≤_};
 ghost use lib.ListN.{length};
 

@@ -6,6 +6,7 @@ pub mod Decoding
 pub mod Readings
 pub mod Writings
 pub mod Trips
+pub mod Silent
 pub mod Walks
 pub mod Songs
 pub mod CSongs

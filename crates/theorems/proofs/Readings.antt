@@ -2,7 +2,7 @@
 -- say of it. Assumes nothing.
 use mathlib.Core.Bool.{Bool, true, false, true≢false, cond}
 use mathlib.Core.List.{List, [], _∷_, _++_}
-use mathlib.Core.Logic.{_↔_}
+use mathlib.Core.Logic.{_↔_, inl, inr}
 use mathlib.Core.Option.{some}
 use mathlib.Core.Path.{_≡_, refl, sym, ap, subst, _∙_}
 use Prim.Native.Nat.{ℕ, _+_, _*_, _≤_, _<_}
@@ -11,18 +11,16 @@ use lib.Dec.{T, eqb, ltb, ltb→lt}
 use lib.ListN.{List·getD-append, drop, getD, length, length-append, length-drop}
 use borrow.Author.Tests.{ne-eqb}
 use Rattle.chord.specs.Chord.{Four, fourOf, noChord, recordOf}
-use Rattle.note.specs.declared.Note.{Note}
-use Rattle.note.specs.declared.OptionalNote.the-variants.{Some}
 use Rattle.house_parts.proofs.Bools.{and-left, and-right}
 use Rattle.nophtris.specs.Boundary.{chordBytes, countAfter, fourIn}
 use Rattle.nophtris.specs.State as C
 use Rattle.expression.proofs.AllNumbers.{all-length}
 use Rattle.expression.specs.ParserError.{allNumbers}
 use Rattle.expression.specs.declared.parser_error.ParserError.{ParserError}
+use Rattle.parser.proofs.Laws.{root-note}
 use Rattle.parser.specs.Parser.{parseOf}
-use Rattle.house_text.proofs.Realized.{accepted-realizable}
-use Rattle.reader.proofs.Answers.{Asked, Way, accept, asked-first, bytes, enough, long, long-list, parse, short, validation, way}
-use Rattle.reader.specs.Reader.{IsAccepted, ReadOutcome, countOf, numberOf, readOf, tokensIn}
+use Rattle.reader.proofs.Answers.{Asked, Way, accept, asked-first, blank, bytes, enough, long, long-list, parse, short, validation, way}
+use Rattle.reader.specs.Reader.{IsAccepted, ReadOutcome, countOf, isBlank, numberOf, readOf, tokensIn}
 use Rattle.reader.specs.State.{Read}
 use Rattle.reader.specs.declared.Answer.the-variants.{Accepted, LongText, NotUtf8, Parse, ShortList, Validation}
 use Rattle.reader.specs.declared.Answer.{Answer}
@@ -32,7 +30,7 @@ use Rattle.theorems.proofs.Decoding.{decoded, fifty-one-bytes}
 use Rattle.theorems.proofs.Errors as errors
 use Rattle.theorems.proofs.Errors.{kind-at, occurs, parse-errors, validation-errors}
 use Rattle.theorems.specs.CReading as C-reading
-use Rattle.theorems.specs.Reading.{Errors, Numbered, ReadApart, ReadErrors, ReadNumbered, ReadRecord, ReadUntouched, errorsOf, fourOfText, parseErrors, validationErrors}
+use Rattle.theorems.specs.Reading.{Errors, Numbered, ReadApart, ReadErrors, ReadNumbered, ReadRecord, ReadUntouched, RootOrBlank, errorsOf, fourOfText, parseErrors, validationErrors}
 use Rattle.utf8.proofs.Laws.{well-formed-is}
 use Rattle.utf8.specs.Utf8.{WellFormed, wellFormed}
 use Rattle.evaluator.specs.Evaluator.{evalSet}
@@ -63,38 +61,45 @@ module _ (text : List ℕ) where
   is-2 : {o : ReadOutcome} → Way text o → (o .number ≡ 2) ↔ (256 < length text)
   is-2 (long k) = yes refl k
   is-2 (bytes k u) = no (λ e. omega (arith, e)) (λ z. omega (arith, k, z))
-  is-2 (parse k u p) = no (λ e. omega (arith, e)) (λ z. omega (arith, k, z))
-  is-2 (validation k u p v) = no (λ e. omega (arith, e)) (λ z. omega (arith, k, z))
-  is-2 (accept k u p v) = no (λ e. omega (arith, e)) (λ z. omega (arith, k, z))
+  is-2 (blank k u b) = no (λ e. omega (arith, e)) (λ z. omega (arith, k, z))
+  is-2 (parse k u b p) = no (λ e. omega (arith, e)) (λ z. omega (arith, k, z))
+  is-2 (validation k u b p v) = no (λ e. omega (arith, e)) (λ z. omega (arith, k, z))
+  is-2 (accept k u b p v) = no (λ e. omega (arith, e)) (λ z. omega (arith, k, z))
 
   is-3 : {o : ReadOutcome} → Way text o → (o .number ≡ 3) ↔ ((length text ≤ 256) × (WellFormed text → ⊥))
   is-3 (long k) = no (λ e. omega (arith, e)) (λ z. omega (arith, k, z .0))
   is-3 (bytes k u) = yes refl (k, ill-formed u)
-  is-3 (parse k u p) = no (λ e. omega (arith, e)) (λ z. z .1 (formed u))
-  is-3 (validation k u p v) = no (λ e. omega (arith, e)) (λ z. z .1 (formed u))
-  is-3 (accept k u p v) = no (λ e. omega (arith, e)) (λ z. z .1 (formed u))
+  is-3 (blank k u b) = no (λ e. omega (arith, e)) (λ z. z .1 (formed u))
+  is-3 (parse k u b p) = no (λ e. omega (arith, e)) (λ z. z .1 (formed u))
+  is-3 (validation k u b p v) = no (λ e. omega (arith, e)) (λ z. z .1 (formed u))
+  is-3 (accept k u b p v) = no (λ e. omega (arith, e)) (λ z. z .1 (formed u))
 
-  is-4 : {o : ReadOutcome} → Way text o → (o .number ≡ 4) ↔ ((length text ≤ 256) × WellFormed text × (1 ≤ length (parseErrors text)))
+  is-4 : {o : ReadOutcome} → Way text o
+      → (o .number ≡ 4) ↔ ((length text ≤ 256) × WellFormed text × (isBlank text ≡ false) × (1 ≤ length (parseErrors text)))
   is-4 (long k) = no (λ e. omega (arith, e)) (λ z. omega (arith, k, z .0))
   is-4 (bytes k u) = no (λ e. omega (arith, e)) (λ z. ill-formed u (z .1))
-  is-4 (parse k u p) = yes refl (k, formed u, some-errors p)
-  is-4 (validation k u p v) = no (λ e. omega (arith, e)) (λ z. no-errors p (z .2))
-  is-4 (accept k u p v) = no (λ e. omega (arith, e)) (λ z. no-errors p (z .2))
+  is-4 (blank k u b) = no (λ e. omega (arith, e)) (λ z. true≢false (sym b ∙ z .2))
+  is-4 (parse k u b p) = yes refl (k, formed u, b, some-errors p)
+  is-4 (validation k u b p v) = no (λ e. omega (arith, e)) (λ z. no-errors p (z .3))
+  is-4 (accept k u b p v) = no (λ e. omega (arith, e)) (λ z. no-errors p (z .3))
 
   is-5 : {o : ReadOutcome} → Way text o
-      → (o .number ≡ 5) ↔ ((length text ≤ 256) × WellFormed text × (parseErrors text ≡ []) × (1 ≤ length (validationErrors text)))
+      → (o .number ≡ 5) ↔ ((length text ≤ 256) × WellFormed text × (isBlank text ≡ false) × (parseErrors text ≡ [])
+      × (1 ≤ length (validationErrors text)))
   is-5 (long k) = no (λ e. omega (arith, e)) (λ z. omega (arith, k, z .0))
   is-5 (bytes k u) = no (λ e. omega (arith, e)) (λ z. ill-formed u (z .1))
-  is-5 (parse k u p) = no (λ e. omega (arith, e)) (λ z. no-errors (z .2) (some-errors p))
-  is-5 (validation k u p v) = yes refl (k, formed u, p, some-errors v)
-  is-5 (accept k u p v) = no (λ e. omega (arith, e)) (λ z. no-errors v (z .3))
+  is-5 (blank k u b) = no (λ e. omega (arith, e)) (λ z. true≢false (sym b ∙ z .2))
+  is-5 (parse k u b p) = no (λ e. omega (arith, e)) (λ z. no-errors (z .3) (some-errors p))
+  is-5 (validation k u b p v) = yes refl (k, formed u, b, p, some-errors v)
+  is-5 (accept k u b p v) = no (λ e. omega (arith, e)) (λ z. no-errors v (z .4))
 
   most : {o : ReadOutcome} → Way text o → o .number ≤ 5
   most (long k) = omega arith
   most (bytes k u) = omega arith
-  most (parse k u p) = omega arith
-  most (validation k u p v) = omega arith
-  most (accept k u p v) = omega arith
+  most (blank k u b) = omega arith
+  most (parse k u b p) = omega arith
+  most (validation k u b p v) = omega arith
+  most (accept k u b p v) = omega arith
 
   -- with the list's question before them
   numbered : (room : ℕ) {o : ReadOutcome} → Asked room text o → Numbered room text (o .number)
@@ -114,8 +119,8 @@ module _ (text : List ℕ) where
         one = no (answered w) (λ z. omega (arith, h, z));
         two = (λ e. (h, is-2 w .0 e), λ x. is-2 w .1 (x .1));
         three = (λ e. let z = is-3 w .0 e in (h, z .0, z .1), λ x. is-3 w .1 (x .1, x .2));
-        four = (λ e. let z = is-4 w .0 e in (h, z .0, z .1, z .2), λ x. is-4 w .1 (x .1, x .2, x .3));
-        five = (λ e. let z = is-5 w .0 e in (h, z .0, z .1, z .2, z .3), λ x. is-5 w .1 (x .1, x .2, x .3, x .4));
+        four = (λ e. let z = is-4 w .0 e in (h, z .0, z .1, z .2, z .3), λ x. is-4 w .1 (x .1, x .2, x .3, x .4));
+        five = (λ e. let z = is-5 w .0 e in (h, z .0, z .1, z .2, z .3, z .4), λ x. is-5 w .1 (x .1, x .2, x .3, x .4, x .5));
         nought = (λ e. (h, record { number = e; four = refl }), λ x. x .1 .number);
         most = most w;
       }
@@ -123,9 +128,10 @@ module _ (text : List ℕ) where
       answered : {o : ReadOutcome} → Way text o → o .number ≡ 1 → ⊥
       answered (long k) e = omega (arith, e)
       answered (bytes k u) e = omega (arith, e)
-      answered (parse k u p) e = omega (arith, e)
-      answered (validation k u p v) e = omega (arith, e)
-      answered (accept k u p v) e = omega (arith, e)
+      answered (blank k u b) e = omega (arith, e)
+      answered (parse k u b p) e = omega (arith, e)
+      answered (validation k u b p v) e = omega (arith, e)
+      answered (accept k u b p v) e = omega (arith, e)
 
   -- ---- the errors
 
@@ -134,19 +140,21 @@ module _ (text : List ℕ) where
       → (l : List ParserError) × errors.Errors 257 l × (1 ≤ length l) × (o .count ≡ length l) × (o .errs ≡ allNumbers l)
   found-errors (long k) h = absurd (omega (arith, h))
   found-errors (bytes k u) h = absurd (omega (arith, h))
-  found-errors (parse {x} {e} k u p) h =
+  found-errors (blank k u b) h = absurd (omega (arith, h))
+  found-errors (parse {x} {e} k u b p) h =
       (x ∷ e, subst (errors.Errors 257) p (parse-errors (tokensIn text) (tokens-most text k)), omega arith, refl, refl)
-  found-errors (validation {x} {e} k u p v) h =
+  found-errors (validation {x} {e} k u b p v) h =
       let l = parseOf (tokensIn text) .exps in
       (x ∷ e, subst (errors.Errors 257) v (validation-errors l (evalSet l)), omega arith, refl, refl)
-  found-errors (accept k u p v) h = absurd (omega (arith, h))
+  found-errors (accept k u b p v) h = absurd (omega (arith, h))
 
   nothing-found : {o : ReadOutcome} → Way text o → o .number ≤ 3 → (o .errs ≡ []) × (o .count ≡ 0)
   nothing-found (long k) h = (refl, refl)
   nothing-found (bytes k u) h = (refl, refl)
-  nothing-found (parse k u p) h = absurd (omega (arith, h))
-  nothing-found (validation k u p v) h = absurd (omega (arith, h))
-  nothing-found (accept k u p v) h = (refl, refl)
+  nothing-found (blank k u b) h = (refl, refl)
+  nothing-found (parse k u b p) h = absurd (omega (arith, h))
+  nothing-found (validation k u b p v) h = absurd (omega (arith, h))
+  nothing-found (accept k u b p v) h = (refl, refl)
 
   -- a kind that occurs
   kind-of : (k : ℕ) → T (occurs k) → (1 ≤ k) × (k < 18) × (k ≡ 13 → ⊥)
@@ -199,9 +207,10 @@ module _ (text : List ℕ) where
   refused-four : {o : ReadOutcome} → Way text o → (o .number ≡ 0 → ⊥) → o .four ≡ noChord
   refused-four (long k) n = refl
   refused-four (bytes k u) n = refl
-  refused-four (parse k u p) n = refl
-  refused-four (validation k u p v) n = refl
-  refused-four (accept k u p v) n = absurd (n refl)
+  refused-four (blank k u b) n = absurd (n refl)
+  refused-four (parse k u b p) n = refl
+  refused-four (validation k u b p v) n = refl
+  refused-four (accept k u b p v) n = absurd (n refl)
 
   no-four : (room : ℕ) {o : ReadOutcome} → Asked room text o → (o .number ≡ 0 → ⊥) → o .four ≡ noChord
   no-four room (short h) n = refl
@@ -236,14 +245,23 @@ read-untouched text es es′ r g h =
     let x = unlisted text es es′ (asked-first (length es) text) (subst (λ (n : ℕ). n ≤ 3) (g .number) h) (g .list) in
     (x .0, g .count ∙ x .1)
 
-root-of : (text : List ℕ) (f : Four) → IsAccepted text f → (n : Note) × (f .root ≡ Some n)
-root-of text f a = let z = accepted-realizable text f a in (z .root, z .rooted)
+-- an accepted text has a root or is blank
+root-by : (text : List ℕ) {o : ReadOutcome} → Way text o → o .number ≡ 0 → RootOrBlank text (o .four)
+root-by text (long k) e = absurd (omega (arith, e))
+root-by text (bytes k u) e = absurd (omega (arith, e))
+root-by text (blank k u b) e = inr (b, refl)
+root-by text (parse k u b p) e = absurd (omega (arith, e))
+root-by text (validation k u b p v) e = absurd (omega (arith, e))
+root-by text (accept k u b p v) e = inl (root-note (tokensIn text) p)
+
+pub root-or-blank : (text : List ℕ) (f : Four) → IsAccepted text f → RootOrBlank text f
+root-or-blank text f a = subst (RootOrBlank text) (a .four) (root-by text (way text) (a .number))
 
 pub read-record : ReadRecord
 read-record text es es′ r g = (
   λ e.
       let x = accepted-four text (length es) (asked-first (length es) text) (sym (g .number) ∙ e) in
-      (g .four ∙ x .0, g .chord ∙ ap recordOf (x .0), root-of text (fourOfText text) (x .1)),
+      (g .four ∙ x .0, g .chord ∙ ap recordOf (x .0), root-or-blank text (fourOfText text) (x .1)),
   λ n. g .chord ∙ ap recordOf (no-four text (length es) (asked-first (length es) text) (λ e. n (g .number ∙ e))),
 )
 
@@ -268,16 +286,18 @@ module _ (text : List ℕ) where
   counted : {o : ReadOutcome} → Way text o → (c : ℕ) → 4 ≤ o .number → countAfter o c ≡ o .count
   counted (long k) c h = absurd (omega (arith, h))
   counted (bytes k u) c h = absurd (omega (arith, h))
-  counted (parse k u p) c h = refl
-  counted (validation k u p v) c h = refl
-  counted (accept k u p v) c h = absurd (omega (arith, h))
+  counted (blank k u b) c h = absurd (omega (arith, h))
+  counted (parse k u b p) c h = refl
+  counted (validation k u b p v) c h = refl
+  counted (accept k u b p v) c h = absurd (omega (arith, h))
 
   uncounted : {o : ReadOutcome} → Way text o → (c : ℕ) → o .number ≤ 3 → countAfter o c ≡ c
   uncounted (long k) c h = refl
   uncounted (bytes k u) c h = refl
-  uncounted (parse k u p) c h = absurd (omega (arith, h))
-  uncounted (validation k u p v) c h = absurd (omega (arith, h))
-  uncounted (accept k u p v) c h = refl
+  uncounted (blank k u b) c h = refl
+  uncounted (parse k u b p) c h = absurd (omega (arith, h))
+  uncounted (validation k u b p v) c h = absurd (omega (arith, h))
+  uncounted (accept k u b p v) c h = refl
 
   counted-first : (room : ℕ) {o : ReadOutcome} → Asked room text o → (c : ℕ) → 4 ≤ o .number → countAfter o c ≡ o .count
   counted-first room (short k) c h = absurd (omega (arith, h))

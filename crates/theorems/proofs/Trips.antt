@@ -28,11 +28,11 @@ use Rattle.writer.specs.Writer.{lengthOf, numberOf}
 use Rattle.writer.specs.declared.Answer.{Answer}
 
 -- the house spelling of an accepted text is accepted with its four
-respelled : (text : List ℕ) (f : Four) → IsAccepted text f → IsAccepted (house f) f
+pub respelled : (text : List ℕ) (f : Four) → IsAccepted text f → IsAccepted (house f) f
 respelled text f a = spelling-realizes f (accepted-realizable text f a)
 
 -- so equal spellings are equal fours
-same-four : (t u : List ℕ) (f g : Four) → IsAccepted t f → IsAccepted u g → house f ≡ house g → f ≡ g
+pub same-four : (t u : List ℕ) (f g : Four) → IsAccepted t f → IsAccepted u g → house f ≡ house g → f ≡ g
 same-four t u f g a b e = sym (respelled t f a .four) ∙ ap (λ (x : List ℕ). answerTo x .four) e ∙ respelled u g b .four
 
 -- ---- Rattle
@@ -42,8 +42,8 @@ module _ (text es es′ : List ℕ) (r : Reading) (g : Read text es es′ r) (e 
   record-accepted = let x = read-accepted text es es′ r g e in subst (IsAccepted text) (sym (x .0)) (x .1)
 
 -- an accepted record is written with 0
-writes : (text : List ℕ) (c : Chord) → IsAccepted text (fourOf c) → (bs bs′ : List ℕ) (a : Answer) → 112 ≤ length bs → Written c bs bs′ a
-    → numberOf a ≡ 0
+pub writes : (text : List ℕ) (c : Chord) → IsAccepted text (fourOf c) → (bs bs′ : List ℕ) (a : Answer) → 112 ≤ length bs
+    → Written c bs bs′ a → numberOf a ≡ 0
 writes text c t bs bs′ a h w =
     let n = write-numbered c bs bs′ a w in
     n .nought (λ e. let z = n .six .0 e in omega (arith, z, h)) (λ e. n .seven .0 e .1 (text, t))
@@ -98,7 +98,7 @@ same-spelling t u c d v w a b =
 -- ---- C
 
 -- bytes that hold an accepted text's four are written with 0
-c-writes : (text cs : List ℕ) (f : Four) → fourIn cs ≡ some f → IsAccepted text f → (bs bs′ : List ℕ) (l l′ r : ℕ) → 112 ≤ length bs
+pub c-writes : (text cs : List ℕ) (f : Four) → fourIn cs ≡ some f → IsAccepted text f → (bs bs′ : List ℕ) (l l′ r : ℕ) → 112 ≤ length bs
     → C.Write cs bs bs′ l l′ r → r ≡ 0
 c-writes text cs f q t bs bs′ l l′ r h w =
     let n = c-write-numbered cs bs bs′ l l′ r w in
@@ -113,7 +113,7 @@ held-same cs f g p q = ap (fromOption f) (sym p ∙ q)
     fromOption d (some x) = x
 
 -- the spelling that was written with 0 is that of the four that the bytes hold
-c-spelled : (cs bs bs′ : List ℕ) (l l′ : ℕ) (f : Four) → fourIn cs ≡ some f → C.Write cs bs bs′ l l′ 0 → Spelled f bs bs′ l′
+pub c-spelled : (cs bs bs′ : List ℕ) (l l′ : ℕ) (f : Four) → fourIn cs ≡ some f → C.Write cs bs bs′ l l′ 0 → Spelled f bs bs′ l′
 c-spelled cs bs bs′ l l′ f q w =
     let x = c-write-zero cs bs bs′ l l′ w in
     subst (λ (y : Four). Spelled y bs bs′ l′) (held-same cs _ f (x .0) q) (x .1)

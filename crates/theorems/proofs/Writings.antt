@@ -18,7 +18,8 @@ use Rattle.nophtris.proofs.Answers as C-answers
 use Rattle.nophtris.specs.Boundary.{fourIn, valuesIn, writeIn}
 use Rattle.nophtris.specs.State as C
 use Rattle.house_text.proofs.Length.{house-length}
-use Rattle.house_text.proofs.Realized.{Narrow, accepted-realizable, some-text, spelling-realizes}
+use Rattle.house_parts.proofs.Nothing.{Narrow}
+use Rattle.house_text.proofs.Realized.{accepted-realizable, some-text, spelling-realizes}
 use Rattle.house_text.specs.Spelling.{house}
 use Rattle.reader.specs.Reader.{IsAccepted}
 use Rattle.theorems.proofs.Readings.{no, yes}

@@ -7,5 +7,6 @@ pub mod CTrips
 pub mod Song
 pub mod CSong
 pub mod Raised
+pub mod Silent
 pub mod Specimens
 pub mod Theorems

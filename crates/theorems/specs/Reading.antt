@@ -1,8 +1,9 @@
 -- What document 01 says of every reading, of `reader::read`: for any text and any lent list, es before it and es′ after it. The only
 -- premise is the contract of the function, `Read`. What is said of a number, of errors and of a four is said once, for the C boundary too
 -- (`CReading`).
+use mathlib.Core.Bool.{true, false}
 use mathlib.Core.List.{List, [], _++_}
-use mathlib.Core.Logic.{_↔_}
+use mathlib.Core.Logic.{_↔_, _⊎_}
 use mathlib.Core.Path.{_≡_}
 use Prim.Native.Nat.{ℕ, _*_, _≤_, _<_}
 use lib.ListN.{drop, getD, length}
@@ -12,7 +13,7 @@ use Rattle.note.specs.declared.OptionalNote.the-variants.{Some}
 use Rattle.evaluator.specs.Evaluator.{evalSet}
 use Rattle.expression.specs.declared.parser_error.ParserError.{ParserError}
 use Rattle.parser.specs.Parser.{parseOf}
-use Rattle.reader.specs.Reader.{IsAccepted, answerTo, countOf, numberOf, tokensIn}
+use Rattle.reader.specs.Reader.{IsAccepted, answerTo, countOf, isBlank, numberOf, tokensIn}
 use Rattle.reader.specs.State.{Read}
 use Rattle.reader.specs.declared.Answer.{Answer}
 use Rattle.reader.specs.declared.Reading.{Reading}
@@ -45,11 +46,13 @@ pub record Numbered (room : ℕ) (text : List ℕ) (n : ℕ) : Type 0 where
   pub two : (n ≡ 2) ↔ ((1028 ≤ room) × (256 < length text))
   -- "Is it UTF-8 by RFC 3629 (no overlong form, no surrogate, nothing above U+10FFFF)? No: 3."
   pub three : (n ≡ 3) ↔ ((1028 ≤ room) × (length text ≤ 256) × (WellFormed text → ⊥))
-  -- "Did parsing find no error? No: 4"
-  pub four : (n ≡ 4) ↔ ((1028 ≤ room) × (length text ≤ 256) × WellFormed text × (1 ≤ length (parseErrors text)))
+  -- "Did parsing find no error? No: 4"; a blank text is not parsed
+  pub four : (n ≡ 4) ↔
+      ((1028 ≤ room) × (length text ≤ 256) × WellFormed text × (isBlank text ≡ false) × (1 ≤ length (parseErrors text)))
   -- "Did validation find no error? No: 5"
   pub five : (n ≡ 5) ↔
-      ((1028 ≤ room) × (length text ≤ 256) × WellFormed text × (parseErrors text ≡ []) × (1 ≤ length (validationErrors text)))
+      ((1028 ≤ room) × (length text ≤ 256) × WellFormed text × (isBlank text ≡ false) × (parseErrors text ≡ [])
+      × (1 ≤ length (validationErrors text)))
   -- "A text is accepted when each question put to a card gets yes, given an error list that is long enough."
   pub nought : (n ≡ 0) ↔ ((1028 ≤ room) × IsAccepted text (fourOfText text))
   pub most : n ≤ 5
@@ -87,11 +90,14 @@ ReadUntouched = (text es es′ : List ℕ) (r : Reading) → Read text es es′ 
 
 -- ---- the record
 
--- "The record read from an accepted text has its four", it is the whole record of them, and its root is a note; any other text gets the
--- record of no chord
+-- a text that is accepted with the four f has a root, or it is blank and there is no chord
+abbrev pub RootOrBlank : List ℕ → Four → Type 0
+RootOrBlank text f = ((n : Note) × (f .root ≡ Some n)) ⊎ ((isBlank text ≡ true) × (f ≡ noChord))
+
+-- "The record read from an accepted text has its four", and it is the whole record of them; any other text gets the record of no chord
 abbrev pub ReadRecord : Type 0
 ReadRecord =
     (text es es′ : List ℕ) (r : Reading) → Read text es es′ r
     → (numberOf (r .answer) ≡ 0
-    → (fourOf (r .chord) ≡ fourOfText text) × (r .chord ≡ recordOf (fourOfText text)) × ((n : Note) × (fourOfText text .root ≡ Some n)))
+    → (fourOf (r .chord) ≡ fourOfText text) × (r .chord ≡ recordOf (fourOfText text)) × RootOrBlank text (fourOfText text))
     × ((numberOf (r .answer) ≡ 0 → ⊥) → r .chord ≡ recordOf noChord)

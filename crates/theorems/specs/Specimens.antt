@@ -1,5 +1,5 @@
--- The card specimens of document 01 that have a star, and the text of document 02 [3]: one table of what is read and spelled, and one
--- statement for all of it.
+-- The card specimens of document 01 that have a star, of which the empty one is as document 02 [4] has it, and the text of document 02 [3]:
+-- one table of what is read and spelled, and one statement for all of it.
 use mathlib.Core.Bool.{cond}
 use mathlib.Core.List.{List, [], _∷_, _++_, map}
 use mathlib.Core.Path.{_≡_}
@@ -67,7 +67,7 @@ specimens =
     ∷ card (ascii "C,b5") 0 0 (0 ∷ 4 ∷ 7 ∷ [])
     ∷ card (ascii "C7dim") 0 0 (0 ∷ 3 ∷ 7 ∷ 12 ∷ [])
     ∷ spelled (ascii "C(omit3,)5") 0 0 (0 ∷ []) (ascii "C,omit3,omit5")
-    ∷ card [] 4 21 (9 ∷ 0 ∷ 0 ∷ 0 ∷ [])
+    ∷ spelled [] 0 21 [] []
     ∷ card (ascii "C)") 4 21 (15 ∷ 2 ∷ 0 ∷ 0 ∷ [])
     ∷ card (ascii "C((") 4 21 (17 ∷ 2 ∷ 0 ∷ 0 ∷ 16 ∷ 3 ∷ 0 ∷ 0 ∷ [])
     ∷ card (ascii "C(/") 4 21 (14 ∷ 3 ∷ 0 ∷ 0 ∷ [])

@@ -7,6 +7,7 @@ use Rattle.theorems.specs.CTrips as C-trips
 use Rattle.theorems.specs.CWriting as C-writing
 use Rattle.theorems.specs.Raised.{RaisedTokens}
 use Rattle.theorems.specs.Reading as reading
+use Rattle.theorems.specs.Silent as silent
 use Rattle.theorems.specs.Song as song
 use Rattle.theorems.specs.Specimens.{ReadAsSaid}
 use Rattle.theorems.specs.Trips as trips
@@ -61,3 +62,13 @@ pub record Theorems : Type 0 where
   pub cAlwaysEight : C-song.AlwaysEight
   -- raised numerals: the tokens of the same text in plain digits, positions mapped back
   pub raisedTokens : RaisedTokens
+  -- silent bars: blank texts and the record of no chord
+  pub blankTexts : silent.BlankTexts
+  pub rootless : silent.Rootless
+  pub emptySpelling : silent.EmptySpelling
+  pub readBlank : silent.ReadBlank
+  pub writeNothing : silent.WriteNothing
+  pub writeRootless : silent.WriteRootless
+  pub cReadBlank : silent.CReadBlank
+  pub cWriteNothing : silent.CWriteNothing
+  pub cWriteRootless : silent.CWriteRootless

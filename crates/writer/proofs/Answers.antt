@@ -14,6 +14,7 @@ use Rattle.chord.specs.Chord.{Four, fourOf}
 use Rattle.chord.specs.declared.Chord.{Chord}
 use Rattle.note.specs.declared.OptionalNote.the-variants.{None, Some}
 use Rattle.note.specs.declared.OptionalNote.{OptionalNote}
+use Rattle.house_parts.proofs.Tests.{same-answer}
 use Rattle.house_parts.specs.House.{kindIn}
 use Rattle.house_parts.specs.Question.{realizable}
 use Rattle.house_parts.specs.declared.kind.SusKind.{SusKind}
@@ -33,13 +34,7 @@ decided c = some-text (fourOf c) (members-narrow (c .normalized))
 
 -- a Boolean that says the same is the test
 pub is-test : (c : Chord) (b : Bool) → (b ≡ true) ↔ HasText (fourOf c) → realizable (fourOf c) ≡ b
-is-test c b h = by (realizable (fourOf c)) b (λ e. h .1 (decided c .0 e)) (λ e. decided c .1 (h .0 e))
-  where
-    by : (x y : Bool) → (x ≡ true → y ≡ true) → (y ≡ true → x ≡ true) → x ≡ y
-    by true true f g = refl
-    by true false f g = sym (f refl)
-    by false true f g = g refl
-    by false false f g = refl
+is-test c b h = same-answer (realizable (fourOf c)) b (λ e. h .1 (decided c .0 e)) (λ e. decided c .1 (h .0 e))
 
 -- the house spelling by K
 abbrev pub spellBy : OptionalNote → SusKind → Four → List ℕ

@@ -30,7 +30,7 @@ pub fn has_text(chord: Chord) -> bool
     is_realizable(chord)
 }
 
-// Writes the house spelling of a record that has a root.
+// Writes the house spelling of a record; without a root it is empty.
 fn spell(chord: Chord, buffer: &mut [u8]) -> usize
     requires { ⌜ 112 ≤ length (now buffer) ⌝ }
     ensures { λ r. ⌜ Put 0 r (house (fourOf chord)) (now (buffer .entry)) (now (buffer .exit)) ⌝ }

@@ -22,8 +22,8 @@ validate-requires c κs = search needs
 cast-t12 : tie.Need-cast-t12
 cast-t12 c = search needs
 
-refuse-requires : tie.Need-refuse-requires
-refuse-requires c κs = search needs
+no-chord-requires : tie.Need-no-chord-requires
+no-chord-requires c κs = search needs
 
 same-length : tie.Need-same-length
 same-length c = search needs
@@ -36,7 +36,7 @@ returns c =
     let v = c .before .before .before .before .validate in
     let w = subst (λ (q : Set). Wrote 0 (v .result) (validationOf l q) (a .errs .now) (v .last .1 .1 .0)) (c .before .before .before .before .before .before .before .evaluate .ensures .set) (v .ensures .0) in
     gave-errors (validationOf l (evalSet l)) 5 _ (v .result) (c .before .if1 .taken) (omega (arith, w .count)) (w .list) (w .rest)
-    (ap numberOf (c .refuse .ensures .0)) (ap countOf (c .refuse .ensures .0)) (c .refuse .ensures .1) (c .refuse .ensures .2)
+    (ap numberOf (c .no-chord .ensures .0)) (ap countOf (c .no-chord .ensures .0)) (c .no-chord .ensures .1) (c .no-chord .ensures .2)
 
 same-length-2 : tie.Need-same-length-2
 same-length-2 c = search needs
@@ -66,7 +66,7 @@ evaluate-spec =
     evaluate-requires
     validate-requires
     cast-t12
-    refuse-requires
+    no-chord-requires
     same-length
     returns
     same-length-2

@@ -23,8 +23,8 @@ parse-requires c κs = search needs
 cast-t15 : tie.Need-cast-t15
 cast-t15 c = search needs
 
-refuse-requires : tie.Need-refuse-requires
-refuse-requires c κs = search needs
+no-chord-requires : tie.Need-no-chord-requires
+no-chord-requires c κs = search needs
 
 same-length : tie.Need-same-length
 same-length c = search needs
@@ -38,8 +38,8 @@ returns c =
     let n = p .result .errors in
     gave-errors (parseOf ts .errs) 4 _ n (c .before .if1 .taken)
     (counted n (parseOf ts .errs) (p .last .1 .1 .1 .0) (omega (arith, p .ensures .few, p .kept, s .pre .1)) (p .ensures .errs))
-    (p .ensures .errs) (p .ensures .rest) (ap numberOf (c .refuse .ensures .0)) (ap countOf (c .refuse .ensures .0))
-    (c .refuse .ensures .1) (c .refuse .ensures .2)
+    (p .ensures .errs) (p .ensures .rest) (ap numberOf (c .no-chord .ensures .0)) (ap countOf (c .no-chord .ensures .0))
+    (c .no-chord .ensures .1) (c .no-chord .ensures .2)
 
 array-share-prefix-exps : tie.Need-array-share-prefix-exps
 array-share-prefix-exps c = search needs
@@ -81,7 +81,7 @@ parse-spec =
     slice-aggregate-parse
     parse-requires
     cast-t15
-    refuse-requires
+    no-chord-requires
     same-length
     returns
     array-share-prefix-exps

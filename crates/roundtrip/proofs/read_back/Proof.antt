@@ -27,6 +27,12 @@ slice-aggregate-reads-as c = sym (length-take-le _ _ (c .before .if1 .left))
 reads-as-requires : tie.Need-reads-as-requires
 reads-as-requires c κs = search needs
 
+enum-told : tie.Need-enum-told
+enum-told c = search needs
+
+enum-told-2 : tie.Need-enum-told-2
+enum-told-2 c = search needs
+
 same-length-2 : tie.Need-same-length-2
 same-length-2 c = search needs
 
@@ -36,32 +42,17 @@ same-length-3 c = search needs
 returns-2 : tie.Need-returns-2
 returns-2 c = search needs
 
-enum-told : tie.Need-enum-told
-enum-told c = search needs
-
-enum-told-2 : tie.Need-enum-told-2
-enum-told-2 c = search needs
-
 same-length-4 : tie.Need-same-length-4
 same-length-4 c = search needs
-
-same-length-5 : tie.Need-same-length-5
-same-length-5 c = search needs
 
 returns-3 : tie.Need-returns-3
 returns-3 c = search needs
 
-same-length-6 : tie.Need-same-length-6
-same-length-6 c = search needs
+same-length-5 : tie.Need-same-length-5
+same-length-5 c = search needs
 
 returns-4 : tie.Need-returns-4
 returns-4 c = search needs
-
-same-length-7 : tie.Need-same-length-7
-same-length-7 c = search needs
-
-returns-5 : tie.Need-returns-5
-returns-5 c = search needs
 
 pub read-back-spec : {M : Type 1} → statement M
 read-back-spec =
@@ -74,15 +65,12 @@ read-back-spec =
     slice-reshare-prefix-reads-as
     slice-aggregate-reads-as
     reads-as-requires
+    enum-told
+    enum-told-2
     same-length-2
     same-length-3
     returns-2
-    enum-told
-    enum-told-2
     same-length-4
-    same-length-5
     returns-3
-    same-length-6
-    returns-4
-    same-length-7
-    returns-5)
+    same-length-5
+    returns-4)

@@ -1,0 +1,69 @@
+-- The record without a root and with nothing else is the one of no chord: bass, set and list are tested one after the other.
+-- Assumes nothing.
+use mathlib.Core.Bool.{Bool, true, false, not, cond, _&&_}
+use mathlib.Core.List.{[]}
+use mathlib.Core.Logic.{_↔_}
+use mathlib.Core.Path.{_≡_, refl, sym, ap, fun-ext, subst, _∙_}
+use Prim.Native.Nat.{ℕ, _+_, _≤_, zero-le}
+use lib.Dec.{T, ltb}
+use borrow.Author.Tests.{ltb-false, ltb-true}
+use Rattle.chord.specs.Chord.{Four, noChord}
+use Rattle.intervals.proofs.Whole.{none-says}
+use Rattle.intervals.specs.Interval.{Set, empty}
+use Rattle.intervals.specs.Stored.{noneFrom, outside, within}
+use Rattle.note.specs.declared.OptionalNote.the-variants.{None, Some}
+use Rattle.note.specs.declared.OptionalNote.{OptionalNote}
+use Rattle.house_parts.specs.House.{isSome, kindIn}
+use Rattle.house_parts.specs.Question.{nothingElse, realizable, realizableBy, sameList}
+use Rattle.house_parts.proofs.Bools.{and-left, and-right}
+use Rattle.house_parts.proofs.Tests.{passed, same-answer, same-lists}
+
+-- no member from 32 on; so it is of every record, whose set has 32 digits, and then the tests see every member
+abbrev pub Narrow : Set → Type 0
+Narrow s = (j : ℕ) → 32 ≤ j → s j ≡ false
+
+no-note : (n : OptionalNote) → isSome n ≡ false → n ≡ None
+no-note None e = refl
+no-note (Some n) e = absurd (subst T e tt)
+
+not-some : (n : OptionalNote) → T (not (isSome n)) → n ≡ None
+not-some None t = refl
+not-some (Some n) t = absurd t
+
+no-member : (s : Set) → Narrow s → noneFrom 0 (23 + outside) s ≡ true → s ≡ empty
+no-member s w e = fun-ext λ j. by j (ltb j 32) refl
+  where
+    by : (j : ℕ) (t : Bool) → ltb j 32 ≡ t → s j ≡ empty j
+    by j true p = none-says s (23 + outside) 0 e j zero-le (ltb-true j 32 p)
+    by j false p = w j (ltb-false j 32 p)
+
+module _ (f : Four) (e : f .root ≡ None) (w : Narrow (f .normalized)) where
+  -- what the tests say, from the last to the first
+  nothing-says : T (nothingElse f) → f ≡ noChord
+  nothing-says t =
+      let none = noneFrom 0 (23 + outside) (f .normalized) in
+      let rest = none && sameList (f .display) [] in
+      let u = and-right (not (isSome (f .bass))) rest t in
+      let b = not-some (f .bass) (and-left (not (isSome (f .bass))) rest t) in
+      let n = no-member (f .normalized) w (passed none (and-left none (sameList (f .display) []) u)) in
+      let d = same-lists (f .display) [] (and-right none (sameList (f .display) []) u) in
+      λ i. record { root = e i; bass = b i; normalized = n i; display = d i }
+
+  -- without a root the question is whether there is nothing else
+  pub rootless : realizable f ≡ nothingElse f
+  rootless =
+      let n = f .normalized in
+      ap (λ (r : OptionalNote). cond (isSome r) (within n && realizableBy (kindIn n (f .display)) n (f .display)) (nothingElse f)) e
+
+  pub rootless-says : realizable f ≡ true → f ≡ noChord
+  rootless-says h = nothing-says (subst T (sym h ∙ rootless) tt)
+
+-- and no chord has nothing else
+pub no-chord-realizable : (f : Four) → f ≡ noChord → realizable f ≡ true
+no-chord-realizable f e = ap realizable e
+
+-- an answer that is true exactly of no chord
+pub no-chord-test : (r : Bool) (f : Four) → isSome (f .root) ≡ false → Narrow (f .normalized) → (r ≡ true) ↔ (f ≡ noChord)
+    → r ≡ realizable f
+no-chord-test r f e w t =
+    same-answer r (realizable f) (λ h. no-chord-realizable f (t .0 h)) (λ h. t .1 (rootless-says f (no-note (f .root) e) w h))
