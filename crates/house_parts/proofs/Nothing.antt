@@ -1,6 +1,6 @@
 -- The record without a root and with nothing else is the one of no chord: bass, set and list are tested one after the other.
 -- Assumes nothing.
-use mathlib.Core.Bool.{Bool, true, false, not, cond, _&&_}
+use mathlib.Core.Bool.{Bool, true, false, not, _&&_}
 use mathlib.Core.List.{[]}
 use mathlib.Core.Logic.{_↔_}
 use mathlib.Core.Path.{_≡_, refl, sym, ap, fun-ext, subst, _∙_}
@@ -10,11 +10,11 @@ use borrow.Author.Tests.{ltb-false, ltb-true}
 use Rattle.chord.specs.Chord.{Four, noChord}
 use Rattle.intervals.proofs.Whole.{none-says}
 use Rattle.intervals.specs.Interval.{Set, empty}
-use Rattle.intervals.specs.Stored.{noneFrom, outside, within}
+use Rattle.intervals.specs.Stored.{noneFrom, outside}
 use Rattle.note.specs.declared.OptionalNote.the-variants.{None, Some}
 use Rattle.note.specs.declared.OptionalNote.{OptionalNote}
-use Rattle.house_parts.specs.House.{isSome, kindIn}
-use Rattle.house_parts.specs.Question.{nothingElse, realizable, realizableBy, sameList}
+use Rattle.house_parts.specs.House.{isSome}
+use Rattle.house_parts.specs.Question.{nothingElse, realizable, sameList}
 use Rattle.house_parts.proofs.Bools.{and-left, and-right}
 use Rattle.house_parts.proofs.Tests.{passed, same-answer, same-lists}
 
@@ -37,6 +37,10 @@ no-member s w e = fun-ext λ j. by j (ltb j 32) refl
     by j true p = none-says s (23 + outside) 0 e j zero-le (ltb-true j 32 p)
     by j false p = w j (ltb-false j 32 p)
 
+-- no chord has nothing else, and so passes the question
+pub no-chord-realizable : (f : Four) → f ≡ noChord → realizable f ≡ true
+no-chord-realizable f e = ap realizable e
+
 module _ (f : Four) (e : f .root ≡ None) (w : Narrow (f .normalized)) where
   -- what the tests say, from the last to the first
   nothing-says : T (nothingElse f) → f ≡ noChord
@@ -51,16 +55,10 @@ module _ (f : Four) (e : f .root ≡ None) (w : Narrow (f .normalized)) where
 
   -- without a root the question is whether there is nothing else
   pub rootless : realizable f ≡ nothingElse f
-  rootless =
-      let n = f .normalized in
-      ap (λ (r : OptionalNote). cond (isSome r) (within n && realizableBy (kindIn n (f .display)) n (f .display)) (nothingElse f)) e
+  rootless = ap realizable (λ i. record { root = e i; bass = f .bass; normalized = f .normalized; display = f .display })
 
   pub rootless-says : realizable f ≡ true → f ≡ noChord
   rootless-says h = nothing-says (subst T (sym h ∙ rootless) tt)
-
--- and no chord has nothing else
-pub no-chord-realizable : (f : Four) → f ≡ noChord → realizable f ≡ true
-no-chord-realizable f e = ap realizable e
 
 -- an answer that is true exactly of no chord
 pub no-chord-test : (r : Bool) (f : Four) → isSome (f .root) ≡ false → Narrow (f .normalized) → (r ≡ true) ↔ (f ≡ noChord)

@@ -1,7 +1,7 @@
 -- Which fours some accepted text has, and that the house spelling of these is accepted and has them. The text half is `text-lemma`, the set half
 -- is house_parts `round-at` and `struct`; what validation finds in the set is carried over. No chord is read from the empty text.
 -- Assumes nothing.
-use mathlib.Core.Bool.{Bool, true, false, not, cond, _&&_}
+use mathlib.Core.Bool.{Bool, true, false, not, _&&_}
 use mathlib.Core.List.{List, [], _∷_, _++_}
 use mathlib.Core.Logic.{_↔_}
 use mathlib.Core.Path.{_≡_, refl, sym, ap, subst, fun-ext, _∙_}
@@ -35,9 +35,9 @@ use Rattle.house_text.proofs.Round.{round-at}
 use Rattle.house_text.proofs.Struct.{Struct, apart, together}
 use Rattle.house_parts.proofs.Nothing.{Narrow, no-chord-realizable, rootless-says}
 use Rattle.house_parts.proofs.Tests.{passed, same-lists, same-self}
-use Rattle.house_parts.specs.House.{displayBy, isSome, kindIn, kindOf, parts, spellExps}
+use Rattle.house_parts.specs.House.{displayBy, kindIn, kindOf, parts, spellExps}
 use Rattle.house_parts.specs.declared.kind.SusKind.{SusKind}
-use Rattle.house_parts.specs.Question.{all, clauses, nothingElse, realizable, realizableBy, sameList}
+use Rattle.house_parts.specs.Question.{all, clauses, realizable, realizableBy, sameList}
 use Rattle.parser.proofs.Laws.{expressions-sound, root-note}
 use Rattle.parser.specs.All.{All}
 use Rattle.parser.specs.Parser.{parseOf, rootOf}
@@ -251,9 +251,7 @@ accepted-realizable t f a = subst Realizable (a .four) (read-realizable t (way t
 -- with a root it asks for these
 with-root : (r : Note) (f : Four) → f .root ≡ Some r
     → realizable f ≡ within (f .normalized) && realizableBy (kindIn (f .normalized) (f .display)) (f .normalized) (f .display)
-with-root r f q =
-    let n = f .normalized in
-    ap (λ (x : OptionalNote). cond (isSome x) (within n && realizableBy (kindIn n (f .display)) n (f .display)) (nothingElse f)) q
+with-root r f q = ap realizable (λ i. record { root = q i; bass = f .bass; normalized = f .normalized; display = f .display })
 
 -- what it says of a record with a root
 told : (r : Note) (f : Four) → f .root ≡ Some r → Narrow (f .normalized)

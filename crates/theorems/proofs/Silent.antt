@@ -3,18 +3,17 @@
 -- Assumes nothing.
 use mathlib.Core.Bool.{Bool, true, false, true≢false, _&&_}
 use mathlib.Core.List.{List, [], _∷_, _++_}
-use mathlib.Core.Logic.{_↔_, _⊎_, inl, inr}
-use mathlib.Core.Option.{Option, some}
+use mathlib.Core.Logic.{inl, inr}
+use mathlib.Core.Option.{some}
 use mathlib.Core.Path.{_≡_, refl, sym, ap, subst, _∙_}
 use Prim.Native.Nat.{ℕ, _≤_}
 use native.Mathlib.Omega.{arith}
-use lib.Dec.{T, eqb, ltb}
+use lib.Dec.{eqb, ltb}
 use lib.ListN.{drop, getD, length}
 use borrow.Author.Tests.{eqb-true, lt-ltb, ltb-false, ltb-true}
 use Rattle.chord.specs.Chord.{Four, fourOf, noChord, recordOf}
 use Rattle.note.specs.declared.Note.{Note}
 use Rattle.note.specs.declared.OptionalNote.the-variants.{None, Some}
-use Rattle.note.specs.declared.OptionalNote.{OptionalNote}
 use Rattle.house_parts.specs.House.{isSome}
 use Rattle.house_text.proofs.WellFormed.{and-left, and-right, low, low-well}
 use Rattle.house_text.specs.Spelling.{house}
@@ -22,7 +21,7 @@ use Rattle.nophtris.proofs.Answers.{holds, holds-none}
 use Rattle.nophtris.specs.State as C
 use Rattle.nophtris.specs.Boundary.{chordBytes, fourIn, inside, noteIn, valuesIn}
 use Rattle.reader.proofs.Answers.{is-blank, long-text}
-use Rattle.reader.specs.Reader.{IsAccepted, ReadOutcome, answerTo, isBlank}
+use Rattle.reader.specs.Reader.{IsAccepted, ReadOutcome, isBlank}
 use Rattle.theorems.proofs.Decoding.{decoded}
 use Rattle.theorems.proofs.Readings.{c-read-untouched, c-reads, read-untouched, reads-as, root-or-blank}
 use Rattle.theorems.proofs.Trips.{c-spelled, c-writes, same-four, writes}
@@ -30,8 +29,7 @@ use Rattle.theorems.proofs.Writings.{c-write-numbered, write-numbered, 
 use Rattle.theorems.specs.Reading.{RootOrBlank}
 use Rattle.theorems.specs.Silent.{BlankTexts, CReadBlank, CWriteNothing, CWriteRootless, EmptySpelling, ReadBlank, Rootless, WriteNothing, WriteRootless, silentBytes}
 use Rattle.theorems.specs.Writing.{NoText, Spelled}
-use Rattle.utf8.specs.Utf8.{wellFormed}
-use Rattle.writer.specs.Writer.{HasText, lengthOf}
+use Rattle.writer.specs.Writer.{HasText}
 
 -- ---- texts and fours
 
