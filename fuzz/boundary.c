@@ -67,7 +67,7 @@ static size_t near(size_t limit) { /* around a limit, or anything below and some
 
 static size_t text(uint8_t *t) {
   size_t n = 0, want = below(8) ? below(40) : near(256);
-  if (below(32) == 0) { /* spaces only */
+  if (below(128) == 0) { /* spaces only */
     memset(t, ' ', want);
     return want;
   }

@@ -346,6 +346,7 @@ c-read-record text es es′ c c′ cs cs′ r g = (
         ap fourIn (x .1) ∙ decoded text f (x .0),
         ap length (x .1) ∙ z .0,
         λ i. subst (λ (q : List ℕ). getD q i 0 < 256) (sym (x .1)) (z .1 i),
+        root-or-blank text f (x .0),
       ),
   c-read-filled text es es′ c c′ cs cs′ r g,
 )

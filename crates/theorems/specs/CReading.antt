@@ -8,7 +8,7 @@ use Prim.Native.Nat.{ℕ, _≤_, _<_}
 use lib.ListN.{getD, length}
 use Rattle.nophtris.specs.Boundary.{fourIn}
 use Rattle.nophtris.specs.State.{Read}
-use Rattle.theorems.specs.Reading.{Errors, Numbered, fourOfText}
+use Rattle.theorems.specs.Reading.{Errors, Numbered, RootOrBlank, fourOfText}
 
 -- the number, by the questions in their order
 abbrev pub ReadNumbered : Type 0
@@ -27,5 +27,6 @@ ReadUntouched = (text es es′ : List ℕ) (c c′ : ℕ) (cs cs′ : List ℕ) 
 abbrev pub ReadRecord : Type 0
 ReadRecord =
     (text es es′ : List ℕ) (c c′ : ℕ) (cs cs′ : List ℕ) (r : ℕ) → Read text es es′ c c′ cs cs′ r
-    → (r ≡ 0 → (fourIn cs′ ≡ some (fourOfText text)) × (length cs′ ≡ 51) × ((i : ℕ) → getD cs′ i 0 < 256))
+    → (r ≡ 0
+    → (fourIn cs′ ≡ some (fourOfText text)) × (length cs′ ≡ 51) × ((i : ℕ) → getD cs′ i 0 < 256) × RootOrBlank text (fourOfText text))
     × ((r ≡ 0 → ⊥) → cs′ ≡ cs)
