@@ -22,13 +22,9 @@ use Rattle.house_parts.proofs.Tests.{passed, same-answer, same-lists}
 abbrev pub Narrow : Set → Type 0
 Narrow s = (j : ℕ) → 32 ≤ j → s j ≡ false
 
-no-note : (n : OptionalNote) → isSome n ≡ false → n ≡ None
-no-note None e = refl
-no-note (Some n) e = absurd (subst T e tt)
-
-not-some : (n : OptionalNote) → T (not (isSome n)) → n ≡ None
-not-some None t = refl
-not-some (Some n) t = absurd t
+no-note : (n : OptionalNote) → T (not (isSome n)) → n ≡ None
+no-note None t = refl
+no-note (Some n) t = absurd t
 
 no-member : (s : Set) → Narrow s → noneFrom 0 (23 + outside) s ≡ true → s ≡ empty
 no-member s w e = fun-ext λ j. by j (ltb j 32) refl
@@ -48,20 +44,21 @@ module _ (f : Four) (e : f .root ≡ None) (w : Narrow (f .normalized)) where
       let none = noneFrom 0 (23 + outside) (f .normalized) in
       let rest = none && sameList (f .display) [] in
       let u = and-right (not (isSome (f .bass))) rest t in
-      let b = not-some (f .bass) (and-left (not (isSome (f .bass))) rest t) in
+      let b = no-note (f .bass) (and-left (not (isSome (f .bass))) rest t) in
       let n = no-member (f .normalized) w (passed none (and-left none (sameList (f .display) []) u)) in
       let d = same-lists (f .display) [] (and-right none (sameList (f .display) []) u) in
       λ i. record { root = e i; bass = b i; normalized = n i; display = d i }
 
   -- without a root the question is whether there is nothing else
-  pub rootless : realizable f ≡ nothingElse f
+  rootless : realizable f ≡ nothingElse f
   rootless = ap realizable (λ i. record { root = e i; bass = f .bass; normalized = f .normalized; display = f .display })
 
   pub rootless-says : realizable f ≡ true → f ≡ noChord
   rootless-says h = nothing-says (subst T (sym h ∙ rootless) tt)
 
 -- an answer that is true exactly of no chord
-pub no-chord-test : (r : Bool) (f : Four) → isSome (f .root) ≡ false → Narrow (f .normalized) → (r ≡ true) ↔ (f ≡ noChord)
+pub no-chord-test : (r : Bool) (f : Four) → not (isSome (f .root)) ≡ true → Narrow (f .normalized) → (r ≡ true) ↔ (f ≡ noChord)
     → r ≡ realizable f
 no-chord-test r f e w t =
-    same-answer r (realizable f) (λ h. no-chord-realizable f (t .0 h)) (λ h. t .1 (rootless-says f (no-note (f .root) e) w h))
+    let none = no-note (f .root) (subst T (sym e) tt) in
+    same-answer r (realizable f) (λ h. no-chord-realizable f (t .0 h)) (λ h. t .1 (rootless-says f none w h))

@@ -129,7 +129,7 @@ not-blank r b n k = by (r .literal)
     by B = refl
 
 -- the empty text is accepted as no chord
-empty-accepted : IsAccepted [] noChord
+pub empty-accepted : IsAccepted [] noChord
 unfolding isBlank wellFrom
 empty-accepted =
     let e = is-blank [] (omega arith) refl refl in

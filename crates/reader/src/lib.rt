@@ -115,7 +115,8 @@ fn read_text(text: &[u8], errs: &mut [u16]) -> Reading
     parse(&kinds[..e], &poss[..e], &lens[..e], errs)
 }
 
-// Reads any bytes, with any lent list. After a refusal with 4 or 5 the list begins with the errors; all else in it is untouched.
+// Reads any bytes, with any lent list. A blank text is accepted as no chord. After a refusal with 4 or 5 the list begins with the errors;
+// all else in it is untouched.
 pub fn read(text: &[u8], errs: &mut [u16]) -> Reading
     ensures { λ r. ⌜ Read (now (text .entry)) (now (errs .entry)) (now (errs .exit)) r ⌝ }
 {

@@ -15,6 +15,7 @@ use Rattle.chord.specs.Chord.{Four, fourOf, noChord, recordOf}
 use Rattle.note.specs.declared.Note.{Note}
 use Rattle.note.specs.declared.OptionalNote.the-variants.{None, Some}
 use Rattle.house_parts.specs.House.{isSome}
+use Rattle.house_text.proofs.Realized.{empty-accepted}
 use Rattle.house_text.proofs.WellFormed.{and-left, and-right, low, low-well}
 use Rattle.house_text.specs.Spelling.{house}
 use Rattle.nophtris.proofs.Answers.{holds, holds-none}
@@ -22,12 +23,15 @@ use Rattle.nophtris.specs.State as C
 use Rattle.nophtris.specs.Boundary.{chordBytes, fourIn, inside, noteIn, valuesIn}
 use Rattle.reader.proofs.Answers.{is-blank, long-text}
 use Rattle.reader.specs.Reader.{IsAccepted, ReadOutcome, isBlank}
+use Rattle.reader.specs.declared.Answer.the-variants.{Accepted}
+use Rattle.reader.specs.declared.Reading.{Reading}
+use Rattle.song.specs.declared.Answer.the-variants.{Bar}
 use Rattle.theorems.proofs.Decoding.{decoded}
-use Rattle.theorems.proofs.Readings.{c-read-untouched, c-reads, read-untouched, reads-as, root-or-blank}
+use Rattle.theorems.proofs.Readings.{c-read-untouched, c-reads, read-apart, read-untouched, reads-as, root-or-blank}
 use Rattle.theorems.proofs.Trips.{c-spelled, c-writes, same-four, writes}
 use Rattle.theorems.proofs.Writings.{c-write-numbered, write-numbered, write-spelled}
 use Rattle.theorems.specs.Reading.{RootOrBlank}
-use Rattle.theorems.specs.Silent.{BlankTexts, CReadBlank, CWriteNothing, CWriteRootless, EmptySpelling, ReadBlank, Rootless, WriteNothing, WriteRootless, silentBytes}
+use Rattle.theorems.specs.Silent.{BlankTexts, CReadBlank, CSilentBar, CWriteNothing, CWriteRootless, EmptySpelling, ReadBlank, Rootless, SilentBar, WriteNothing, WriteRootless, silentBytes}
 use Rattle.theorems.specs.Writing.{NoText, Spelled}
 use Rattle.writer.specs.Writer.{HasText}
 
@@ -54,31 +58,26 @@ none-some : {n : Note} → None ≡ Some n → ⊥
 none-some e = true≢false (sym (ap isSome e))
 
 pub blank-texts : BlankTexts
-blank-texts t = (λ a. (short-enough t noChord a, by a (root-or-blank t noChord a)), λ x. accepted (x .0) (x .1))
+blank-texts t = (λ a. (short-enough t noChord a, by (root-or-blank t noChord a)), λ x. accepted (x .0) (x .1))
   where
-    by : IsAccepted t noChord → RootOrBlank t noChord → isBlank t ≡ true
-    by a (inl x) = absurd (none-some (x .1))
-    by a (inr x) = x .0
+    by : RootOrBlank t noChord → isBlank t ≡ true
+    by (inl x) = absurd (none-some (x .1))
+    by (inr x) = x .0
 
     accepted : length t ≤ 256 → isBlank t ≡ true → IsAccepted t noChord
     accepted h b =
         let e = is-blank t h (low-well t (blank-low t b)) b in
         record { number = ap (λ (o : ReadOutcome). o .number) e; four = ap (λ (o : ReadOutcome). o .four) e }
 
--- the empty text is the shortest of them
-empty-text : IsAccepted [] noChord
-unfolding isBlank
-empty-text = blank-texts [] .1 (omega arith, refl)
-
 pub rootless : Rootless
-rootless f e = (λ t. by (t .0) (root-or-blank (t .0) f (t .1)), λ z. subst HasText (sym z) ([], empty-text))
+rootless f e = (λ t. by (t .0) (root-or-blank (t .0) f (t .1)), λ z. subst HasText (sym z) ([], empty-accepted))
   where
     by : (t : List ℕ) → RootOrBlank t f → f ≡ noChord
     by t (inl x) = absurd (none-some (sym e ∙ x .1))
     by t (inr x) = x .1
 
 pub empty-spelling : EmptySpelling
-empty-spelling f t = (same-four (t .0) [] f noChord (t .1) empty-text, ap house)
+empty-spelling f t = (same-four (t .0) [] f noChord (t .1) empty-accepted, ap house)
 
 -- ---- calls in Rattle
 
@@ -88,6 +87,13 @@ read-blank text es es′ r g h k b =
     let z = g .number ∙ x .0 in
     (z, g .chord ∙ ap recordOf (x .1), read-untouched text es es′ r g (omega (arith, z)) .0)
 
+pub silent-bar : SilentBar
+silent-bar b a ch es es′ cut s h k e =
+    let r : Reading = record { answer = s .answer; chord = ch } in
+    let x = read-blank b es es′ r (s .read) h k e in
+    let n = read-untouched b es es′ r (s .read) (omega (arith, x .0)) .1 in
+    (s .says ∙ ap Bar (read-apart (s .answer) Accepted (x .0) n), x .1, x .2)
+
 -- what was spelled is the empty text
 nothing-spelled : {f : Four} {bs bs′ : List ℕ} {n : ℕ} → f ≡ noChord → Spelled f bs bs′ n → (n ≡ 0) × (bs′ ≡ bs)
 nothing-spelled {f} {bs} {bs′} {n} e s =
@@ -96,7 +102,7 @@ nothing-spelled {f} {bs} {bs′} {n} e s =
 
 pub write-nothing : WriteNothing
 write-nothing c bs bs′ a g h e =
-    let z = writes [] c (subst (IsAccepted []) (sym e) empty-text) bs bs′ a h g in
+    let z = writes [] c (subst (IsAccepted []) (sym e) empty-accepted) bs bs′ a h g in
     let x = nothing-spelled e (write-spelled c bs bs′ a g z) in
     (z, x .0, x .1)
 
@@ -115,11 +121,15 @@ c-read-blank text es es′ c c′ cs cs′ r g h k b =
     let u = c-read-untouched text es es′ c c′ cs cs′ r g (omega (arith, x .0)) in
     (x .0, x .1 ∙ silent-bytes, u .0, u .1)
 
+pub c-silent-bar : CSilentBar
+c-silent-bar line b k s h n e =
+    c-read-blank b (k .es) (k .es′) (k .c) (k .c′) (k .cs) (k .cs′) (k .r) (s .read) h n e
+
 pub c-write-nothing : CWriteNothing
 c-write-nothing = (
-  ap fourIn (sym silent-bytes) ∙ decoded [] noChord empty-text,
+  ap fourIn (sym silent-bytes) ∙ decoded [] noChord empty-accepted,
   λ cs bs bs′ l l′ r g h q.
-      let z = c-writes [] cs noChord q empty-text bs bs′ l l′ r h g in
+      let z = c-writes [] cs noChord q empty-accepted bs bs′ l l′ r h g in
       let x = nothing-spelled refl (c-spelled cs bs bs′ l l′ noChord q (subst (C.Write cs bs bs′ l l′) z g)) in
       (z, x .0, x .1),
 )

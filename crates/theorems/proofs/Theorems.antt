@@ -3,7 +3,7 @@
 use Rattle.theorems.proofs.CSongs.{c-all-bars, c-always-eight, c-bars-from, c-handed-out, c-step-turns}
 use Rattle.theorems.proofs.Raised.{raised-tokens}
 use Rattle.theorems.proofs.Readings.{c-read-errors, c-read-numbered, c-read-record, c-read-untouched, read-apart, read-errors, read-numbered, read-record, read-untouched}
-use Rattle.theorems.proofs.Silent.{blank-texts, c-read-blank, c-write-nothing, c-write-rootless, empty-spelling, read-blank, rootless, write-nothing, write-rootless}
+use Rattle.theorems.proofs.Silent.{blank-texts, c-read-blank, c-silent-bar, c-write-nothing, c-write-rootless, empty-spelling, read-blank, rootless, silent-bar, write-nothing, write-rootless}
 use Rattle.theorems.proofs.Songs.{all-bars, always-eight, bars-from, handed-out, next-all-bars, next-always-eight, next-bars-from, next-handed-out, next-turns, step-turns}
 use Rattle.theorems.proofs.Specimens.{read-as-said}
 use Rattle.theorems.proofs.Trips.{any-written-then-read, c-any-written-then-read, c-read-then-write, c-same-spelling, c-write-then-read, read-then-write, same-spelling, write-then-read}
@@ -60,9 +60,11 @@ theorems =
       rootless = rootless;
       emptySpelling = empty-spelling;
       readBlank = read-blank;
+      silentBar = silent-bar;
       writeNothing = write-nothing;
       writeRootless = write-rootless;
       cReadBlank = c-read-blank;
+      cSilentBar = c-silent-bar;
       cWriteNothing = c-write-nothing;
       cWriteRootless = c-write-rootless;
     }

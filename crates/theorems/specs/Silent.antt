@@ -1,5 +1,5 @@
 -- Silent bars, document 02 [4]: blank texts and the record of no chord. First of texts and fours, then of calls, in Rattle's terms and in
--- C's; the only premises of these are the contracts.
+-- C's; the only premises of these are the contracts, and of a bar what `AllBars` and `BarsFrom` say of the step that read it.
 use mathlib.Core.Bool.{true}
 use mathlib.Core.List.{List, [], _∷_}
 use mathlib.Core.Logic.{_↔_}
@@ -16,7 +16,12 @@ use Rattle.nophtris.specs.State as C
 use Rattle.reader.specs.Reader as reader
 use Rattle.reader.specs.Reader.{IsAccepted, isBlank}
 use Rattle.reader.specs.State.{Read}
+use Rattle.reader.specs.declared.Answer.the-variants.{Accepted}
 use Rattle.reader.specs.declared.Reading.{Reading}
+use Rattle.song.specs.declared.Answer as song
+use Rattle.song.specs.declared.Answer.the-variants.{Bar}
+use Rattle.theorems.specs.CSong.{Call, CallReads}
+use Rattle.theorems.specs.Song.{ReadsBar}
 use Rattle.writer.specs.State.{Written}
 use Rattle.writer.specs.Writer.{HasText, lengthOf, numberOf}
 use Rattle.writer.specs.declared.Answer.{Answer}
@@ -41,6 +46,13 @@ ReadBlank =
     (text es es′ : List ℕ) (r : Reading) → Read text es es′ r → 1028 ≤ length es → length text ≤ 256 → isBlank text ≡ true
     → (reader.numberOf (r .answer) ≡ 0) × (r .chord ≡ recordOf noChord) × (es′ ≡ es)
 
+-- "as does a blank bar of a song line": a step that read it, by `step_at` or `next`, says 0 of the bar
+abbrev pub SilentBar : Type 0
+SilentBar =
+    (b : List ℕ) (a : song.Answer) (ch : Chord) (es es′ cut : List ℕ) → ReadsBar b a ch es es′ cut
+    → 1028 ≤ length es → length b ≤ 256 → isBlank b ≡ true
+    → (a ≡ Bar Accepted) × (ch ≡ recordOf noChord) × (es′ ≡ es)
+
 -- no chord is written with 0 and the length 0, and the buffer stays
 abbrev pub WriteNothing : Type 0
 WriteNothing =
@@ -64,6 +76,11 @@ CReadBlank =
     (text es es′ : List ℕ) (c c′ : ℕ) (cs cs′ : List ℕ) (r : ℕ) → C.Read text es es′ c c′ cs cs′ r
     → 1028 ≤ length es → length text ≤ 256 → isBlank text ≡ true
     → (r ≡ 0) × (cs′ ≡ silentBytes) × (es′ ≡ es) × (c′ ≡ c)
+
+abbrev pub CSilentBar : Type 0
+CSilentBar =
+    (line b : List ℕ) (k : Call) → CallReads line b k → 1028 ≤ length (k .es) → length b ≤ 256 → isBlank b ≡ true
+    → (k .r ≡ 0) × (k .cs′ ≡ silentBytes) × (k .es′ ≡ k .es) × (k .c′ ≡ k .c)
 
 -- these bytes hold no chord, and bytes that hold no chord are written with 0 and the length 0
 abbrev pub CWriteNothing : Type 0

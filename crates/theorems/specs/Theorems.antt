@@ -67,8 +67,10 @@ pub record Theorems : Type 0 where
   pub rootless : silent.Rootless
   pub emptySpelling : silent.EmptySpelling
   pub readBlank : silent.ReadBlank
+  pub silentBar : silent.SilentBar
   pub writeNothing : silent.WriteNothing
   pub writeRootless : silent.WriteRootless
   pub cReadBlank : silent.CReadBlank
+  pub cSilentBar : silent.CSilentBar
   pub cWriteNothing : silent.CWriteNothing
   pub cWriteRootless : silent.CWriteRootless

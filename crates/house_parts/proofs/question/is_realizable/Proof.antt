@@ -1,8 +1,8 @@
 -- By whether there is a root: without one by equality with the record of no chord, with one by whether there are members outside the table.
 -- Assumes nothing.
-use mathlib.Core.Bool.{true}
+use mathlib.Core.Bool.{true, not}
 use mathlib.Core.Logic.{_↔_}
-use mathlib.Core.Path.{_≡_, subst, sym, _∙_}
+use mathlib.Core.Path.{_≡_, ap, subst, sym, _∙_}
 use borrow.Author.Needs.{needs}
 use borrow.Author.Tests.{not-false, not-true}
 use Rattle.chord.specs.Chord.{Four, fourOf}
@@ -24,7 +24,7 @@ returns : tie.Need-returns
 returns c =
     let some = c .before .before .before .is-some in
     let a = c .before .before .before .before .before .before .args in
-    let e = sym (some .ensures) ∙ not-true (some .result) (c .before .before .if1 .taken) in
+    let e = sym (ap not (some .ensures)) ∙ c .before .before .if1 .taken in
     let t = subst (λ (f : Four). (c .same .result ≡ true) ↔ (fourOf (a .chord) ≡ f)) (c .before .new .ensures .1) (c .same .ensures) in
     no-chord-test (c .same .result) (fourOf (a .chord)) e (members-narrow (a .chord .normalized)) t
 
