@@ -1,9 +1,10 @@
--- The card specimens of document 01 that have a star, of which the empty one is as document 02 [4] has it, and the text of document 02 [3]:
--- one table of what is read and spelled, and one statement for all of it.
+-- The card specimens of document 01 that have a star, of which the empty one is as document 02 [4] has it, and texts of document 02 [3] and
+-- [4]: one table of what is read and spelled, and one statement for all of it.
 use mathlib.Core.Bool.{cond}
 use mathlib.Core.List.{List, [], _∷_, _++_, map}
 use mathlib.Core.Path.{_≡_}
 use Prim.Native.Nat.{ℕ, zero, suc}
+use lib.ListN.{replicate}
 use Rattle.intervals.specs.Interval.{Set}
 use Rattle.note.specs.Note.{noteNumber}
 use Rattle.note.specs.declared.OptionalNote.the-variants.{None, Some}
@@ -58,6 +59,10 @@ answer s = specimenOf s (answerTo (s .card))
 abbrev cSquared : List ℕ
 cSquared = encodeAll (0x43 ∷ 0xB2 ∷ [])
 
+-- "A text of at most 256 bytes that is empty or spaces only"
+abbrev spaces : ℕ → List ℕ
+spaces n = replicate n 0x20
+
 abbrev pub specimens : List Specimen
 specimens =
     spelled (ascii "C6/9") 0 0 (0 ∷ 4 ∷ 8 ∷ 11 ∷ 17 ∷ []) (ascii "C,add6,add9")
@@ -74,6 +79,10 @@ specimens =
     ∷ card (ascii "Cadd7") 5 21 (7 ∷ 4 ∷ 0 ∷ 0 ∷ [])
     ∷ card (ascii "C7Maj7") 5 21 (10 ∷ 13 ∷ 14 ∷ 0 ∷ [])
     ∷ card cSquared 5 21 (6 ∷ 1 ∷ 0 ∷ 0 ∷ [])
+    ∷ spelled (spaces 1) 0 21 [] []
+    ∷ spelled (spaces 256) 0 21 [] []
+    ∷ card (spaces 257) 2 21 []
+    ∷ card (0x09 ∷ []) 4 21 (9 ∷ 0 ∷ 0 ∷ 0 ∷ [])
     ∷ []
 
 -- each is read and spelled as the paper says
