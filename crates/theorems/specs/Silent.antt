@@ -67,16 +67,18 @@ WriteRootless =
 
 -- ---- `nophtris_read` and `nophtris_write`
 
--- no root and no bass, each 255 with the alteration 0, no members and no count
+-- no root and no bass, each 255 with the alteration 0; no members, the count 0, and zeros behind it
 abbrev pub silentBytes : List ℕ
 silentBytes = 255 ∷ 0 ∷ 255 ∷ 0 ∷ replicate 47 0
 
+-- a blank text is read with 0 into these bytes; list and count stay
 abbrev pub CReadBlank : Type 0
 CReadBlank =
     (text es es′ : List ℕ) (c c′ : ℕ) (cs cs′ : List ℕ) (r : ℕ) → C.Read text es es′ c c′ cs cs′ r
     → 1028 ≤ length es → length text ≤ 256 → isBlank text ≡ true
     → (r ≡ 0) × (cs′ ≡ silentBytes) × (es′ ≡ es) × (c′ ≡ c)
 
+-- and so is a blank bar of a song line
 abbrev pub CSilentBar : Type 0
 CSilentBar =
     (line b : List ℕ) (k : Call) → CallReads line b k → 1028 ≤ length (k .es) → length b ≤ 256 → isBlank b ≡ true
