@@ -43,12 +43,12 @@ use Rattle.parser.specs.All.{All}
 use Rattle.parser.specs.Parser.{parseOf, rootOf}
 use Rattle.house_text.proofs.Length.{length-spelled}
 use Rattle.house_text.proofs.TextLemma.{places, text-lemma}
-use Rattle.house_text.proofs.WellFormed.{spelled-utf8}
+use Rattle.house_text.proofs.WellFormed.{blank-utf8, spelled-utf8}
 use Rattle.house_text.specs.Spelling.{house, houseBy, letterText, signText, spell, texts, written}
 use Rattle.reader.proofs.Answers.{Way, accept, blank, bytes, is-blank, is-text, long, parse, validation, way}
 use Rattle.reader.specs.Reader.{IsAccepted, ReadOutcome, accepted, answerTo, isBlank, judge, tokensIn}
 use Rattle.expression.specs.Bounds.{Sound}
-use Rattle.utf8.specs.Utf8.{wellFormed, wellFrom}
+use Rattle.utf8.specs.Utf8.{wellFormed}
 use Rattle.validator.specs.Validator.{allFrom, conflictAt, expressionErrors, extensionErrors, extensionFault, firstWrong, isNil, only, orElse, repeated, semitoneErrors, setValid, validationOf}
 
 -- what parsing finds
@@ -128,12 +128,15 @@ not-blank r b n k = by (r .literal)
     by A = refl
     by B = refl
 
--- the empty text is accepted as no chord
-pub empty-accepted : IsAccepted [] noChord
-unfolding isBlank wellFrom
-empty-accepted =
-    let e = is-blank [] (omega arith) refl refl in
+-- a blank text is accepted as no chord, and so is the empty one, which is the house spelling of no chord
+pub blank-accepted : (t : List ℕ) → length t ≤ 256 → isBlank t ≡ true → IsAccepted t noChord
+blank-accepted t h b =
+    let e = is-blank t h (blank-utf8 t b) b in
     record { number = ap (λ (x : ReadOutcome). x .number) e; four = ap (λ (x : ReadOutcome). x .four) e }
+
+pub empty-accepted : IsAccepted [] noChord
+unfolding isBlank
+empty-accepted = blank-accepted [] (omega arith) refl
 
 -- ---- which fours some accepted text has
 

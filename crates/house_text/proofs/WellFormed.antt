@@ -1,13 +1,13 @@
--- Every house spelling is well-formed UTF-8: all its bytes are below 128, and each such byte is a character.
+-- Every house spelling is well-formed UTF-8, and so is every blank text: all bytes are below 128, and each such byte is a character.
 -- Assumes nothing.
 use mathlib.Core.Bool.{Bool, true, false, _&&_, true≢false}
 use mathlib.Core.List.{List, [], _∷_, _++_}
 use mathlib.Core.Path.{_≡_, refl, sym, ap, _∙_}
 use Prim.Native.Nat.{ℕ, _-_, _<_}
 use native.Mathlib.Omega.{arith}
-use lib.Dec.{ltb}
+use lib.Dec.{eqb, ltb}
 use lib.ListN.{length}
-use borrow.Author.Tests.{lt-ltb, ltb-true}
+use borrow.Author.Tests.{eqb-true, lt-ltb, ltb-true}
 use Rattle.intervals.specs.Interval.{Set}
 use Rattle.note.specs.declared.Note.{Note}
 use Rattle.note.specs.declared.NoteLiteral.the-variants.{C, D, E, F, G, A, B}
@@ -17,6 +17,7 @@ use Rattle.note.specs.declared.OptionalNote.{OptionalNote}
 use Rattle.note.specs.declared.RootModifier.the-variants.{Natural, Sharp, Flat}
 use Rattle.note.specs.declared.RootModifier.{RootModifier}
 use Rattle.house_parts.specs.declared.kind.SusKind.{SusKind}
+use Rattle.reader.specs.Reader.{isBlank}
 use Rattle.utf8.proofs.Laws.{charOf-encode, low-scalar}
 use Rattle.utf8.specs.Utf8.{afterChar, charOf, encode, wellFormed, wellFrom}
 use Rattle.utf8.specs.declared.Found.the-variants.{Char}
@@ -26,17 +27,17 @@ use Rattle.house_text.proofs.Piecewise.{Piece, piece, pieces}
 use Rattle.house_text.proofs.TextLemma.{Form, plain, minor, diminished, formOf, formText, headText, textOf, bassText, spelled}
 
 -- are all bytes below 128?
-abbrev pub low : List ℕ → Bool
+abbrev low : List ℕ → Bool
 low [] = true
 low (b ∷ s) = ltb b 128 && low s
 
 -- the first of two that hold
-pub and-left : (a b : Bool) → a && b ≡ true → a ≡ true
+and-left : (a b : Bool) → a && b ≡ true → a ≡ true
 and-left true b h = refl
 and-left false b h = h
 
 -- the second of two that hold
-pub and-right : (a b : Bool) → a && b ≡ true → b ≡ true
+and-right : (a b : Bool) → a && b ≡ true → b ≡ true
 and-right true b h = h
 and-right false b h = absurd (true≢false (sym h))
 
@@ -48,12 +49,23 @@ low-char b s h =
     ap (λ (l : List ℕ). charOf (l ++ s)) (sym e) ∙ charOf-encode b s (low-scalar b (omega arith)) ∙ ap (λ (l : List ℕ). Char b (length l)) e
 
 -- such bytes are well formed
-pub low-well : (s : List ℕ) → low s ≡ true → wellFormed s ≡ true
+low-well : (s : List ℕ) → low s ≡ true → wellFormed s ≡ true
 unfolding wellFrom
 low-well [] h = refl
 low-well (b ∷ s) h =
     ap (λ (c : Found). afterChar c (λ n. wellFrom (n - 1) s)) (low-char b s (ltb-true b 128 (and-left (ltb b 128) (low s) h)))
     ∙ low-well s (and-right (ltb b 128) (low s) h)
+
+-- a blank text has them
+blank-low : (t : List ℕ) → isBlank t ≡ true → low t ≡ true
+unfolding isBlank
+blank-low [] b = refl
+blank-low (x ∷ t) b =
+    let e : x ≡ 0x20 = eqb-true x 0x20 (and-left (eqb x 0x20) (isBlank t) b) in
+    ap (λ (c : Bool). c && low t) (lt-ltb x 128 (omega (arith, e))) ∙ blank-low t (and-right (eqb x 0x20) (isBlank t) b)
+
+pub blank-utf8 : (t : List ℕ) → isBlank t ≡ true → wellFormed t ≡ true
+blank-utf8 t b = low-well t (blank-low t b)
 
 -- one such text after another
 low-in-two : (a b : List ℕ) → low a ≡ true → low b ≡ true → low (a ++ b) ≡ true

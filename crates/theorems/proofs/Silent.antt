@@ -1,27 +1,26 @@
--- Silent bars: a blank text is well formed, so the questions accept it; an accepted text without a root is blank; and the empty spelling
--- is the house spelling of no chord. What the contracts say of calls follows from these.
+-- Silent bars: a blank text is accepted (house_text `Realized`); an accepted text without a root is blank; and the empty text is the house
+-- spelling of no chord. What the contracts say of calls follows from these.
 -- Assumes nothing.
-use mathlib.Core.Bool.{Bool, true, false, true≢false, _&&_}
-use mathlib.Core.List.{List, [], _∷_, _++_}
+use mathlib.Core.Bool.{Bool, true, false, true≢false}
+use mathlib.Core.List.{List, [], _++_}
 use mathlib.Core.Logic.{inl, inr}
 use mathlib.Core.Option.{some}
 use mathlib.Core.Path.{_≡_, refl, sym, ap, subst, _∙_}
 use Prim.Native.Nat.{ℕ, _≤_}
 use native.Mathlib.Omega.{arith}
-use lib.Dec.{eqb, ltb}
+use lib.Dec.{ltb}
 use lib.ListN.{drop, getD, length}
-use borrow.Author.Tests.{eqb-true, lt-ltb, ltb-false, ltb-true}
+use borrow.Author.Tests.{ltb-false, ltb-true}
 use Rattle.chord.specs.Chord.{Four, fourOf, noChord, recordOf}
 use Rattle.note.specs.declared.Note.{Note}
 use Rattle.note.specs.declared.OptionalNote.the-variants.{None, Some}
 use Rattle.house_parts.specs.House.{isSome}
-use Rattle.house_text.proofs.Realized.{empty-accepted}
-use Rattle.house_text.proofs.WellFormed.{and-left, and-right, low, low-well}
+use Rattle.house_text.proofs.Realized.{blank-accepted, empty-accepted}
 use Rattle.house_text.specs.Spelling.{house}
 use Rattle.nophtris.proofs.Answers.{holds, holds-none}
 use Rattle.nophtris.specs.State as C
 use Rattle.nophtris.specs.Boundary.{chordBytes, fourIn, inside, noteIn, valuesIn}
-use Rattle.reader.proofs.Answers.{is-blank, long-text}
+use Rattle.reader.proofs.Answers.{long-text}
 use Rattle.reader.specs.Reader.{IsAccepted, ReadOutcome, isBlank}
 use Rattle.reader.specs.declared.Answer.the-variants.{Accepted}
 use Rattle.reader.specs.declared.Reading.{Reading}
@@ -37,14 +36,6 @@ use Rattle.writer.specs.Writer.{HasText}
 
 -- ---- texts and fours
 
--- spaces are below 128
-blank-low : (t : List ℕ) → isBlank t ≡ true → low t ≡ true
-unfolding isBlank
-blank-low [] b = refl
-blank-low (x ∷ t) b =
-    let e : x ≡ 0x20 = eqb-true x 0x20 (and-left (eqb x 0x20) (isBlank t) b) in
-    ap (λ (c : Bool). c && low t) (lt-ltb x 128 (omega (arith, e))) ∙ blank-low t (and-right (eqb x 0x20) (isBlank t) b)
-
 short-enough : (t : List ℕ) (f : Four) → IsAccepted t f → length t ≤ 256
 short-enough t f a = by (ltb 256 (length t)) refl
   where
@@ -58,16 +49,11 @@ none-some : {n : Note} → None ≡ Some n → ⊥
 none-some e = true≢false (sym (ap isSome e))
 
 pub blank-texts : BlankTexts
-blank-texts t = (λ a. (short-enough t noChord a, by (root-or-blank t noChord a)), λ x. accepted (x .0) (x .1))
+blank-texts t = (λ a. (short-enough t noChord a, by (root-or-blank t noChord a)), λ x. blank-accepted t (x .0) (x .1))
   where
     by : RootOrBlank t noChord → isBlank t ≡ true
     by (inl x) = absurd (none-some (x .1))
     by (inr x) = x .0
-
-    accepted : length t ≤ 256 → isBlank t ≡ true → IsAccepted t noChord
-    accepted h b =
-        let e = is-blank t h (low-well t (blank-low t b)) b in
-        record { number = ap (λ (o : ReadOutcome). o .number) e; four = ap (λ (o : ReadOutcome). o .four) e }
 
 pub rootless : Rootless
 rootless f e = (λ t. by (t .0) (root-or-blank (t .0) f (t .1)), λ z. subst HasText (sym z) ([], empty-accepted))
@@ -83,7 +69,7 @@ empty-spelling f t = (same-four (t .0) [] f noChord (t .1) empty-accepted, ap ho
 
 pub read-blank : ReadBlank
 read-blank text es es′ r g h k b =
-    let x = reads-as (length es) text noChord (blank-texts text .1 (k, b)) h in
+    let x = reads-as (length es) text noChord (blank-accepted text k b) h in
     let z = g .number ∙ x .0 in
     (z, g .chord ∙ ap recordOf (x .1), read-untouched text es es′ r g (omega (arith, z)) .0)
 
@@ -117,7 +103,7 @@ silent-bytes = refl
 
 pub c-read-blank : CReadBlank
 c-read-blank text es es′ c c′ cs cs′ r g h k b =
-    let x = c-reads text es es′ c c′ cs cs′ r noChord (blank-texts text .1 (k, b)) h g in
+    let x = c-reads text es es′ c c′ cs cs′ r noChord (blank-accepted text k b) h g in
     let u = c-read-untouched text es es′ c c′ cs cs′ r g (omega (arith, x .0)) in
     (x .0, x .1 ∙ silent-bytes, u .0, u .1)
 
