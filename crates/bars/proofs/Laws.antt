@@ -84,6 +84,32 @@ way line p = by (ltb longestLine (length line)) (ltb (length line) p) refl refl
     by false true e f = past (ltb-false longestLine (length line) e) (ltb-true (length line) p f)
     by false false e f = here (ltb-false longestLine (length line) e) (ltb-false (length line) p f)
 
+-- and from each of the three back to it
+module _ (line : List ℕ) (p : ℕ) where
+  pub place-over : longestLine < length line → placeAt line p ≡ stayed TooLong p
+  place-over h = by (way line p)
+    where
+      by : {q : Place} → Way line p q → q ≡ stayed TooLong p
+      by (over g) = refl
+      by (past g k) = absurd (omega (arith, g, h))
+      by (here g k) = absurd (omega (arith, g, h))
+
+  pub place-past : length line ≤ longestLine → length line < p → placeAt line p ≡ stayed End p
+  place-past h k = by (way line p)
+    where
+      by : {q : Place} → Way line p q → q ≡ stayed End p
+      by (over g) = absurd (omega (arith, g, h))
+      by (past g m) = refl
+      by (here g m) = absurd (omega (arith, k, m))
+
+  pub place-here : length line ≤ longestLine → p ≤ length line → placeAt line p ≡ barPlace line p
+  place-here h k = by (way line p)
+    where
+      by : {q : Place} → Way line p q → q ≡ barPlace line p
+      by (over g) = absurd (omega (arith, g, h))
+      by (past g m) = absurd (omega (arith, k, m))
+      by (here g m) = refl
+
 -- ---- what the three have in common
 
 pub place-within : (line : List ℕ) (p : ℕ) → (placeAt line p .from ≤ placeAt line p .to) × (placeAt line p .to ≤ length line)

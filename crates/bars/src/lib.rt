@@ -5,9 +5,9 @@ ghost use lib.ListN.{length};
 ghost use Rattle.bars.specs.Bars.{barEnd, placeAt, stayed};
 ghost use Rattle.bars.specs.State.{Part};
 
-const STROKE: u8 = b'|';
+pub const STROKE: u8 = b'|';
 
-const LONGEST_LINE: usize = 4096;
+pub const LONGEST_LINE: usize = 4096;
 
 // What a step at a position finds: a line that is too long (8), the end, or a bar.
 pub enum Found {

@@ -26,30 +26,6 @@ use Rattle.theorems.specs.Song.{AllBars, AlwaysEight, Answers, BarsFrom,
 -- ---- one step at a position: what it finds, and its outcome
 
 module _ (line : List ℕ) (p : ℕ) where
-  pub place-over : longestLine < length line → placeAt line p ≡ stayed found.TooLong p
-  place-over h = by (way line p)
-    where
-      by : {q : Place} → Way line p q → q ≡ stayed found.TooLong p
-      by (over g) = refl
-      by (past g k) = absurd (omega (arith, g, h))
-      by (here g k) = absurd (omega (arith, g, h))
-
-  pub place-past : length line ≤ longestLine → length line < p → placeAt line p ≡ stayed found.End p
-  place-past h k = by (way line p)
-    where
-      by : {q : Place} → Way line p q → q ≡ stayed found.End p
-      by (over g) = absurd (omega (arith, g, h))
-      by (past g m) = refl
-      by (here g m) = absurd (omega (arith, k, m))
-
-  pub place-here : length line ≤ longestLine → p ≤ length line → placeAt line p ≡ bars.barPlace line p
-  place-here h k = by (way line p)
-    where
-      by : {q : Place} → Way line p q → q ≡ bars.barPlace line p
-      by (over g) = absurd (omega (arith, g, h))
-      by (past g m) = absurd (omega (arith, k, m))
-      by (here g m) = refl
-
   module _ (room : ℕ) where
     pub outcome : {q : Place} → placeAt line p ≡ q → stepOf room line p ≡ outcomeOf (q .found) (readOf room (barAt line p))
     unfolding stepOf
