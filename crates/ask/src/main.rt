@@ -1,12 +1,14 @@
 // A line protocol: one question a line, whose first word says which, and one answer a line. `read LIST TEXT` reads a text with a lent
 // list of LIST numbers, `spell TEXT` gives its house spelling, and `write BUFFER RECORD` writes a record into a lent buffer of BUFFER
 // bytes. `step LIST POSITION LINE` takes the step at a position of a song line, and `song LINE` all steps from its start to the first
-// `end` or `8`, a line each. A line that is no question is answered `?` and why. What waits is written where a block of input ends, so
-// that a caller who waits for an answer gets it.
+// `end` or `8`, a line each. `bar K LENGTH BYTES` says where bar K lies in a song whose body is the first LENGTH of the bytes and whose
+// ending is the rest. A line that is no question is answered `?` and why. What waits is written where a block of input ends, so that a
+// caller who waits for an answer gets it.
 ghost use Prim.Native.Nat.{_≤_};
 ghost use Rattle.io.specs.Counts.{Counts};
 
 mod answer;
+mod bar;
 mod fault;
 mod number;
 mod record;
@@ -16,6 +18,7 @@ use answer::HALF;
 use answer::put_reading;
 use answer::put_spelling;
 use answer::put_written;
+use bar::put_numbered;
 use fault::Fault;
 use fault::put_fault;
 use lines::Input;
@@ -128,6 +131,31 @@ fn answer_song(out: &mut [u8], used: usize, line: &[u8]) -> usize {
     put_song(out, used, &line[from..], &mut errs)
 }
 
+// Answers `bar K LENGTH BYTES`. The first number that is wrong makes the line no question, and so does a LENGTH above the count of bytes.
+fn answer_bar(out: &mut [u8], used: usize, line: &[u8]) -> usize {
+    let number = next_number(line, 3);
+    let length = next_number(line, number.at);
+    let first = number.fault;
+    let second = length.fault;
+    let fault = first.or(second);
+    if !fault.is_nothing() {
+        return put_fault(out, used, fault);
+    }
+    let from = behind_space(line, length.at);
+    let n = length.value as usize;
+    if line.len() - from < n {
+        return put_fault(out, used, Fault::LargeNumber);
+    }
+    let middle = from + n;
+    put_numbered(
+        out,
+        used,
+        &line[from..middle],
+        &line[middle..],
+        number.value as usize,
+    )
+}
+
 // Is the first word this one?
 fn asks(line: &[u8], word: &[u8]) -> bool {
     if line.len() < word.len() {
@@ -162,6 +190,9 @@ fn put_answer(out: &mut [u8], used: usize, line: &[u8]) -> usize {
     }
     if asks(line, b"song") {
         return answer_song(out, used, line);
+    }
+    if asks(line, b"bar") {
+        return answer_bar(out, used, line);
     }
     put_fault(out, used, Fault::NoQuestion)
 }

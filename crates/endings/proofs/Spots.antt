@@ -151,6 +151,9 @@ spot-fits body ending k = by (way body ending k)
     by (in-ending h g i j) = record { ordered = omega arith; within = bar-within ending (k - barCount body) (omega (arith, i, j)) }
     by (none h g i) = nowhere-fits NoBar body ending
 
+pub spot-ordered : {s : Spot} (body ending : List ℕ) (k : ℕ) → s ≡ spotOf body ending k → s .from ≤ s .to
+spot-ordered body ending k e = subst (λ (x : Spot). x .from ≤ x .to) (sym e) (spot-fits body ending k .ordered)
+
 -- what is said of the line of an answer is said of the line that the answer is known to name
 module _ (s : Spot) (a : Answer) (e : s .answer ≡ a) where
   pub fits-in : (body ending : List ℕ) → Fits s body ending → (s .from ≤ s .to) × (s .to ≤ length (lineOf a body ending))

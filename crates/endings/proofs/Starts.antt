@@ -2,20 +2,20 @@
 -- Assumes nothing.
 use mathlib.Core.Bool.{Bool, true, false, cond}
 use mathlib.Core.List.{List, [], _∷_}
-use mathlib.Core.Path.{_≡_, refl, sym, ap, subst, _∙_}
+use mathlib.Core.Path.{_≡_, refl, sym, ap, _∙_}
 use Prim.Native.Nat.{ℕ, zero, suc, _+_, _-_, _≤_, _<_}
 use native.Mathlib.Numerals.{add-one}
 use native.Mathlib.Omega.{arith}
 use lib.Dec.{eqb, ltb}
 use lib.ListN.{length, getD, take, drop, drop-of-length-le}
 use lib.Seq.{drop-cons}
-use borrow.Author.Tests.{eq-eqb, le-ltb, lt-ltb, ne-eqb}
+use borrow.Author.Tests.{eq-eqb, le-ltb, lt-ltb, ltb-false, ltb-true, ne-eqb}
+use Rattle.bars.proofs.Laws.{bar-take}
 use Rattle.bars.proofs.Splits.{bar-count}
 use Rattle.bars.specs.Bars.{stroke, onto, barsOf, bar, barAt, barEnd}
 use Rattle.endings.specs.Endings.{spans, barCount, barOf, startOf}
 use Rattle.endings.specs.State.{startIn}
 use Rattle.endings.specs.declared.Start.the-variants.{At, Beyond}
-use Rattle.endings.specs.declared.Start.{Start}
 
 pub some-bar : (l : List ℕ) → 0 < barCount l
 some-bar l = omega (arith, bar-count l)
@@ -183,3 +183,27 @@ module _ (l : List ℕ) (k : ℕ) (h : k < barCount l) where
 
   pub end-at-start : barEnd l (startOf l k) ≡ startOf l k + length (barOf l k)
   end-at-start = ap (λ (x : List ℕ). startOf l k + length x) bar-at-start
+
+  -- so many bytes from there on are the bar
+  pub bar-bytes : take (length (barOf l k)) (drop (startOf l k) l) ≡ barOf l k
+  bar-bytes =
+      ap (λ (b : List ℕ). take (length b) (drop (startOf l k) l)) (sym bar-at-start)
+      ∙ bar-take (drop (startOf l k) l)
+      ∙ bar-at-start
+
+-- ---- no two bars start at the same place
+
+grows : (bs : List (List ℕ)) (i j : ℕ) → i < j → j ≤ length bs → spans (take i bs) < spans (take j bs)
+unfolding spans
+grows [] i j h g = absurd (omega (arith, h, g))
+grows (b ∷ bs) i zero h g = absurd (omega (arith, h))
+grows (b ∷ bs) zero (suc j) h g = omega arith
+grows (b ∷ bs) (suc i) (suc j) h g = omega (arith, grows bs i j (omega (arith, h)) (omega (arith, g)))
+
+pub start-apart : (l : List ℕ) (i j : ℕ) → i < barCount l → j < barCount l → startOf l i ≡ startOf l j → i ≡ j
+start-apart l i j h g e = by (ltb i j) (ltb j i) refl refl
+  where
+    by : (s t : Bool) → ltb i j ≡ s → ltb j i ≡ t → i ≡ j
+    by true t p q = absurd (omega (arith, e, grows (barsOf l) i j (ltb-true i j p) (omega (arith, g))))
+    by false true p q = absurd (omega (arith, e, grows (barsOf l) j i (ltb-true j i q) (omega (arith, h))))
+    by false false p q = omega (arith, ltb-false i j p, ltb-false j i q)

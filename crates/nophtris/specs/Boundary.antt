@@ -7,6 +7,9 @@ use lib.Dec.{eqb, leb, ltb}
 use lib.IntN.{ℤ, pos, negsuc}
 use lib.ListN.{drop, getD, length, replicate, take}
 use Rattle.chord.specs.Chord.{Four}
+use Rattle.endings.specs.Endings.{numberOf}
+use Rattle.endings.specs.State.{lineOf}
+use Rattle.endings.specs.declared.Answer.{Answer}
 use Rattle.intervals.specs.Interval.{Set}
 use Rattle.note.specs.Note.{alterationOf, letterNumber, letterOf}
 use Rattle.note.specs.declared.OptionalNote.the-variants.{None, Some}
@@ -105,6 +108,16 @@ abbrev pub placeAfter : StepOutcome → ℕ → ℕ → ℕ
 placeAfter eight new old = old
 placeAfter end new old = old
 placeAfter (bar o) new old = new
+
+-- ---- a bar by its number
+
+-- the line that has the bar: 0 the body, 1 the ending
+abbrev pub lineNumber : Answer → ℕ
+lineNumber a = lineOf a 0 1
+
+-- the line that has the bar, its place and its length are written with 0 only
+abbrev pub spotAfter : Answer → ℕ → ℕ → ℕ
+spotAfter a new old = cond (eqb (numberOf a) 0) new old
 
 -- ---- writing
 

@@ -9,8 +9,9 @@ ghost use Rattle.chord.specs.Chord.{fourOf};
 ghost use Rattle.intervals.specs.Stored.{members, listed};
 ghost use Rattle.intervals.specs.Interval.{insert};
 ghost use Rattle.writer.specs.State.{Put};
-ghost use Rattle.nophtris.specs.Boundary.{alterationByte, areBits, chordBytes, inside, isAlteration, isNote, listBytes, modifierIn, noteBytes, noteIn, setBytes, valuesIn};
-ghost use Rattle.nophtris.specs.State.{Read, Step, Write};
+ghost use Rattle.endings.specs.Endings.{numberOf};
+ghost use Rattle.nophtris.specs.Boundary.{alterationByte, areBits, chordBytes, inside, isAlteration, isNote, lineNumber, listBytes, modifierIn, noteBytes, noteIn, setBytes, valuesIn};
+ghost use Rattle.nophtris.specs.State.{Bar, Read, Step, Write};
 use bars::Found;
 use chord::Chord;
 use intervals::IntervalList;
@@ -183,6 +184,57 @@ pub extern "C" fn nophtris_step(
             nophtris_read(&line[from..to], errors, count, chord)
         }
     }
+}
+
+// The paper's number of the answer to a bar number.
+fn number_of(answer: endings::Answer) -> u8
+    ensures { λ r. ⌜ r ≡ numberOf answer ⌝ }
+{
+    match answer {
+        endings::Answer::TooLong => 8,
+        endings::Answer::NoBar => 9,
+        endings::Answer::Body => 0,
+        endings::Answer::Ending => 0,
+    }
+}
+
+// The line that has the bar: 0 the body, 1 the ending.
+fn line_number(answer: endings::Answer) -> u8
+    ensures { λ r. ⌜ r ≡ lineNumber answer ⌝ }
+{
+    match answer {
+        endings::Answer::TooLong => 0,
+        endings::Answer::NoBar => 0,
+        endings::Answer::Body => 0,
+        endings::Answer::Ending => 1,
+    }
+}
+
+// Where the bar of any number lies in any body and any ending. With 0 the line that has it, its place in that line and its length are
+// written; 8 (a line is too long) and 9 (there is no such bar) leave all lent memory as it was.
+#[no_mangle]
+pub extern "C" fn nophtris_bar<'a>(
+    body: &'a [u8],
+    ending: &'a [u8],
+    number: usize,
+    line: &mut u8,
+    start: &mut usize,
+    size: &mut usize,
+) -> u8
+    ensures { λ r. ⌜ Bar (now (body .entry)) (now (ending .entry)) number (now (line .entry)) (now (line .exit)) (now (start .entry))
+        (now (start .exit)) (now (size .entry)) (now (size .exit)) r ⌝ }
+{
+    let spot = endings::spot_of(body, ending, number);
+    let answer = spot.answer;
+    let from = spot.from;
+    let said = number_of(answer);
+    if said != 0 {
+        return said;
+    }
+    *line = line_number(answer);
+    *start = from;
+    *size = spot.to - from;
+    0
 }
 
 // The modifier of an alteration; natural of a byte that is none.

@@ -2,19 +2,19 @@
 -- Assumes nothing.
 use mathlib.Core.List.{List}
 use mathlib.Core.Path.{_≡_, refl, sym, ap, subst, _∙_}
-use Prim.Native.Nat.{ℕ, _-_, _≤_, _<_}
+use Prim.Native.Nat.{ℕ, _+_, _-_, _≤_, _<_}
 use native.Mathlib.Omega.{arith}
 use lib.ListN.{drop, length, take}
 use Rattle.bars.proofs.Laws as bars
-use Rattle.bars.proofs.Laws.{Way, bar-cut, here, over, past, way}
-use Rattle.bars.specs.Bars.{barAt, longestLine, placeAt}
+use Rattle.bars.proofs.Laws.{Way, bar-cut, here, over, past, place-here, place-over, place-past, way}
+use Rattle.bars.specs.Bars.{barAt, barEnd, longestLine, placeAt}
 use Rattle.bars.specs.declared.Place.{Place}
 use Rattle.nophtris.specs.Boundary.{placeAfter, readIn}
 use Rattle.nophtris.specs.State.{GaveRead}
 use Rattle.reader.specs.Reader.{readOf}
 use Rattle.song.specs.Song.{StepOutcome, outcomeOf, stepOf}
 use Rattle.theorems.proofs.Readings.{c-read-numbered}
-use Rattle.theorems.proofs.Songs.{Any, outcome, place-here, place-over, place-past}
+use Rattle.theorems.proofs.Songs.{Any, outcome}
 use Rattle.theorems.proofs.Walks.{all-say, answers, from-start, handed-line}
 use Rattle.theorems.specs.CSong.{AllBars, AlwaysEight, BarsFrom, Call, CallReads, CallSays, Calls, HandedOut, StepTurns, cutBy}
 use Rattle.theorems.specs.Song.{Answers, Turn}
@@ -32,10 +32,10 @@ module _ (line : List ℕ) (p p′ : ℕ) (k : Call) (d : Calls line p k p′) w
     goes : p′ ≡ q .next
     goes = d .position ∙ ap (λ (x : Place). x .next) e
 
-    starts : k .f′ ≡ placeAfter (outcomeOf (q .found) (readOf (length (k .es)) (barAt line p))) (q .from) (k .f)
+    pub starts : k .f′ ≡ placeAfter (outcomeOf (q .found) (readOf (length (k .es)) (barAt line p))) (q .from) (k .f)
     starts = d .from ∙ (λ i. placeAfter (is i) (e i .from) (k .f))
 
-    spans : k .l′ ≡ placeAfter (outcomeOf (q .found) (readOf (length (k .es)) (barAt line p))) (q .to - q .from) (k .l)
+    pub spans : k .l′ ≡ placeAfter (outcomeOf (q .found) (readOf (length (k .es)) (barAt line p))) (q .to - q .from) (k .l)
     spans = d .size ∙ (λ i. placeAfter (is i) (e i .to - e i .from) (k .l))
 
   says-eight : longestLine < length line → CallSays 8 k
@@ -99,12 +99,17 @@ module _ (line : List ℕ) (p p′ : ℕ) (k : Call) (d : Calls line p k p′) w
 pub c-step-turns : StepTurns
 c-step-turns = turn
 
+module _ (line : List ℕ) (h : length line ≤ longestLine) where
+  pub c-reads-at : (p p′ : ℕ) (k : Call) → Any p → Calls line p k p′ → p ≤ length line
+      → CallReads line (barAt line p) k × Any p′ × (p′ ≡ barEnd line p + 1)
+  c-reads-at p p′ k _ d m = (reads line p p′ k d h m, tt, goes line p p′ k d (place-here line p h m))
+
+  c-ends-at : (p p′ : ℕ) (k : Call) → Any p → Calls line p k p′ → length line < p → CallSays 255 k × Any p′ × (p′ ≡ p)
+  c-ends-at p p′ k _ d m = (says-end line p p′ k d h m, tt, goes line p p′ k d (place-past line p h m))
+
 pub c-bars-from : BarsFrom
 c-bars-from line p ks h run =
-    answers (Calls line) Any line (λ (q : ℕ). q) (CallReads line) (CallSays 255)
-    (λ q q′ k _ d m. (reads line q q′ k d h m, tt, goes line q q′ k d (place-here line q h m)))
-    (λ q q′ k _ d m. (says-end line q q′ k d h m, tt, goes line q q′ k d (place-past line q h m)))
-    tt run
+    answers (Calls line) Any line (λ (q : ℕ). q) (CallReads line) (c-reads-at line h) (CallSays 255) (c-ends-at line h) tt run
 
 pub c-all-bars : AllBars
 c-all-bars line ks h run = subst (Answers (CallReads line) (CallSays 255) ks) (from-start line) (c-bars-from line 0 ks h run)

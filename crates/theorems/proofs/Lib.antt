@@ -10,6 +10,8 @@ pub mod Silent
 pub mod Walks
 pub mod Songs
 pub mod CSongs
+pub mod Endings
+pub mod CEndings
 pub mod RaisedCharacters
 pub mod RaisedRuns
 pub mod RaisedHeads

@@ -7,11 +7,9 @@ use Prim.Native.Nat.{ℕ, _+_, _-_, _≤_, _<_}
 use native.Mathlib.Omega.{arith}
 use lib.ListN.{drop, length, take}
 use denote.Ref.{now}
-use Rattle.bars.proofs.Laws as bars
-use Rattle.bars.proofs.Laws.{Way, bar-cut, here, over, past, way}
-use Rattle.bars.specs.Bars.{barAt, barEnd, longestLine, placeAt, stayed}
+use Rattle.bars.proofs.Laws.{Way, bar-cut, here, over, past, place-here, place-over, place-past, way}
+use Rattle.bars.specs.Bars.{barAt, barEnd, longestLine, placeAt}
 use Rattle.bars.specs.State.{Line}
-use Rattle.bars.specs.declared.Found.the-variants as found
 use Rattle.bars.specs.declared.Place.{Place}
 use Rattle.chord.specs.declared.Chord.{Chord}
 use Rattle.reader.specs.Reader.{readOf}
@@ -23,13 +21,12 @@ use Rattle.line_reader.specs.declared.LineReader.{LineReader}
 use Rattle.theorems.proofs.Walks.{all-say, answers, from-start, handed-line}
 use Rattle.theorems.specs.Song.{AllBars, AlwaysEight, Answers, BarsFrom, Call, CallReads, CallSays, Calls, HandedOut, NextAllBars, NextAlwaysEight, NextBarsFrom, NextCall, NextCalls, NextHandedOut, NextReads, NextSays, NextTurns, ReadsBar, ReadsNone, SaysBar, StepTurns, Turn, barsFrom, cutBy}
 
--- ---- one step at a position: what it finds, and its outcome
+-- ---- one step at a position: its outcome
 
-module _ (line : List ℕ) (p : ℕ) where
-  module _ (room : ℕ) where
-    pub outcome : {q : Place} → placeAt line p ≡ q → stepOf room line p ≡ outcomeOf (q .found) (readOf room (barAt line p))
-    unfolding stepOf
-    outcome e = ap (λ (x : Place). outcomeOf (x .found) (readOf room (barAt line p))) e
+module _ (line : List ℕ) (p room : ℕ) where
+  pub outcome : {q : Place} → placeAt line p ≡ q → stepOf room line p ≡ outcomeOf (q .found) (readOf room (barAt line p))
+  unfolding stepOf
+  outcome e = ap (λ (x : Place). outcomeOf (x .found) (readOf room (barAt line p))) e
 
 -- ---- an answer is one of three
 
@@ -115,7 +112,7 @@ module _ (line : List ℕ) where
       (λ i. take (g .to i - g .from i) (drop (g .from i) line))
       ∙ bar-cut line p (placeAt line p) refl (ap (λ (q : Place). q .found) (place-here line p h k))
 
-  reads-at : length line ≤ longestLine → (p p′ : ℕ) (c : Call) → Any p → Calls line p c p′ → p ≤ length line
+  pub reads-at : length line ≤ longestLine → (p p′ : ℕ) (c : Call) → Any p → Calls line p c p′ → p ≤ length line
       → CallReads line (barAt line p) c × Any p′ × (p′ ≡ barEnd line p + 1)
   reads-at h p p′ c _ (g, n) k =
       let s = c .step in (
@@ -140,7 +137,7 @@ module _ (line : List ℕ) where
 
 pub bars-from : BarsFrom
 bars-from line p cs h run =
-    answers (Calls line) Any line (λ (q : ℕ). q) (CallReads line) (CallSays End) (reads-at line h) (ends-at line h) tt run
+    answers (Calls line) Any line (λ (q : ℕ). q) (CallReads line) (reads-at line h) (CallSays End) (ends-at line h) tt run
 
 pub all-bars : AllBars
 all-bars line cs h run = subst (Answers (CallReads line) (CallSays End) cs) (from-start line) (bars-from line 0 cs h run)
@@ -157,7 +154,7 @@ pub next-turns : NextTurns
 next-turns r t es es′ g = turn (now (r .line)) (r .at) (t .reader .at) (t .step .answer) (t .step .chord) es es′ (g .step .said) (g .at)
 
 module _ (line : Line) where
-  abbrev Holds : LineReader → Type 0
+  abbrev pub Holds : LineReader → Type 0
   Holds r = r .line ≡ line
 
   module _ (r r′ : LineReader) (c : NextCall) (e : r .line ≡ line) (d : NextCalls r c r′) where
@@ -203,22 +200,21 @@ module _ (line : Line) where
         (d .0 .at))
         h
 
+module _ (line : Line) (h : length (now line) ≤ longestLine) where
+  pub next-reads-at : (r r′ : LineReader) (c : NextCall) → Holds line r → NextCalls r c r′ → r .at ≤ length (now line)
+      → NextReads line (barAt (now line) (r .at)) c × Holds line r′ × (r′ .at ≡ barEnd (now line) (r .at) + 1)
+  next-reads-at r r′ c e d k =
+      (next-reads line r r′ c e d h k, keeps line r r′ c e d, moved line r r′ c e d (place-here (now line) (r .at) h k))
+
+  next-ends-at : (r r′ : LineReader) (c : NextCall) → Holds line r → NextCalls r c r′ → length (now line) < r .at
+      → NextSays End c × Holds line r′ × (r′ .at ≡ r .at)
+  next-ends-at r r′ c e d k =
+      (next-ends line r r′ c e d h k, keeps line r r′ c e d, moved line r r′ c e d (place-past (now line) (r .at) h k))
+
 pub next-bars-from : NextBarsFrom
 next-bars-from r cs h run =
-    let l = now (r .line) in
-    answers NextCalls (Holds (r .line)) l (λ (x : LineReader). x .at) (NextReads (r .line)) (NextSays End)
-    (λ x x′ c e d k. (
-      next-reads (r .line) x x′ c e d h k,
-      keeps (r .line) x x′ c e d,
-      moved (r .line) x x′ c e d
-          (place-here l (x .at) h k),
-    ))
-    (λ x x′ c e d k. (
-      next-ends (r .line) x x′ c e d h k,
-      keeps (r .line) x x′ c e d,
-      moved (r .line) x x′ c e d
-          (place-past l (x .at) h k),
-    ))
+    let l = r .line in
+    answers NextCalls (Holds l) (now l) (λ (x : LineReader). x .at) (NextReads l) (next-reads-at l h) (NextSays End) (next-ends-at l h)
     refl run
 
 pub next-all-bars : NextAllBars

@@ -8,5 +8,7 @@ pub mod Song
 pub mod CSong
 pub mod Raised
 pub mod Silent
+pub mod Endings
+pub mod CEndings
 pub mod Specimens
 pub mod Theorems

@@ -1,10 +1,12 @@
 -- All statements, in the order of the demands and of the requests: proofs/Theorems.antt has a value of this record. That each call ends and
 -- that nothing in it is undefined is what it means that the functions are proved; that the caller has nothing to check first, that they
 -- have no `requires`.
+use Rattle.theorems.specs.CEndings as C-endings
 use Rattle.theorems.specs.CReading as C-reading
 use Rattle.theorems.specs.CSong as C-song
 use Rattle.theorems.specs.CTrips as C-trips
 use Rattle.theorems.specs.CWriting as C-writing
+use Rattle.theorems.specs.Endings as endings
 use Rattle.theorems.specs.Raised.{RaisedTokens}
 use Rattle.theorems.specs.Reading as reading
 use Rattle.theorems.specs.Silent as silent
@@ -74,3 +76,15 @@ pub record Theorems : Type 0 where
   pub cSilentBar : silent.CSilentBar
   pub cWriteNothing : silent.CWriteNothing
   pub cWriteRootless : silent.CWriteRootless
+  -- second endings: one bar number, all of them in order, and the steps on the line that has the bar
+  pub spotNumbered : endings.SpotNumbered
+  pub eachOnce : endings.EachOnce
+  pub spotsInOrder : endings.SpotsInOrder
+  pub barsInOrder : endings.BarsInOrder
+  pub barIsStep : endings.BarIsStep
+  pub barIsNext : endings.BarIsNext
+  pub cBarNumbered : C-endings.BarNumbered
+  pub cBarUntouched : C-endings.BarUntouched
+  pub cEachOnce : C-endings.EachOnce
+  pub cBarsInOrder : C-endings.BarsInOrder
+  pub cBarIsStep : C-endings.BarIsStep

@@ -1,7 +1,6 @@
 -- From the place on there is a bar, and `place_at` says where it ends.
 -- Assumes nothing.
 use mathlib.Core.Path.{ap, _∙_}
-use Prim.Native.Nat.{ℕ}
 use borrow.Author.Needs.{needs}
 use Rattle.bars.proofs.Laws.{place-here}
 use Rattle.bars.specs.declared.Place.{Place}

@@ -1,9 +1,8 @@
 -- At each place the bar looked for is bar `left` of what is left of the line (`Passing`).
 -- Assumes nothing.
 use mathlib.Core.Logic.{⊎-elim}
-use mathlib.Core.List.{List}
-use mathlib.Core.Path.{_≡_, refl, sym, ap, subst, _∙_}
-use Prim.Native.Nat.{ℕ, _≤_, _-_, _+_}
+use mathlib.Core.Path.{sym, subst}
+use Prim.Native.Nat.{_-_, _+_}
 use native.Mathlib.Omega.{arith}
 use lib.ListN.{length}
 use Rattle.endings.proofs.Starts.{Passing, passing-first, passing-other, passing-stroke, passed-all, passed-to}
