@@ -1,5 +1,5 @@
-/* How deep the functions go: each text is read, as a text and as a song line, and each record written, on a stack of its own that was painted before.
- * Prints the bytes used. */
+/* How deep the functions go: each text is read, as a text and as a song line, a bar of it is found by its number, and each record written, on a
+ * stack of its own that was painted before. Prints the bytes used. */
 #include <pthread.h>
 #include <stdint.h>
 #include <stdio.h>
@@ -14,11 +14,12 @@
 typedef struct {
   const char *text;
   size_t len;
-  int call; /* 0 nothing, 1 read, 2 write, 3 step */
+  int call; /* 0 nothing, 1 read, 2 write, 3 step, 4 bar */
   uint8_t number;
 } task;
 
 static size_t position, bar_from, bar_len;
+static uint8_t bar_line;
 static uint16_t errors[NOPHTRIS_ERRORS], count, length;
 static nophtris_chord chord;
 static uint8_t buffer[NOPHTRIS_BUFFER];
@@ -30,6 +31,8 @@ static void *run(void *p) {
   position = 0;
   if (t->call == 3)
     t->number = nophtris_step((const uint8_t *)t->text, t->len, &position, errors, NOPHTRIS_ERRORS, &count, &chord, &bar_from, &bar_len);
+  const uint8_t *line = (const uint8_t *)t->text;
+  if (t->call == 4) t->number = nophtris_bar(line, t->len, line, t->len, 2 * t->len, &bar_line, &bar_from, &bar_len);
   return NULL;
 }
 
@@ -73,5 +76,7 @@ int main(void) {
   row("reading 256 commas", repeated("C", ",", 256), 1);
   row("a step that reads C", "C|", 3);
   row("a step that reads C((( ..", repeated("C", "(", 256), 3);
+  row("a bar by its number, of 255 times |", repeated("", "|", 255), 4);
+  row("a number that no bar of C has", "C", 4);
   return 0;
 }

@@ -1,5 +1,6 @@
-/* Calls the functions of the library with random bytes, changed cards, song lines and changed records, with every list, buffer and line length around each
- * limit, and checks what the papers say of the lent memory: every lent piece stands between guard bytes, and what a call may not write is as it was.
+/* Calls the functions of the library with random bytes, changed cards, song lines, bar numbers and changed records, with every list, buffer
+ * and line length around each limit, and checks what the papers say of the lent memory: every lent piece stands between guard bytes, and what
+ * a call may not write is as it was.
  * Blank texts of 0 to 300 spaces and the record of no chord, with any one byte changed, come first.
  * usage: boundary CALLS SEED. Prints how often each number came up; ends with status 1 at the first fault. */
 #include <stdint.h>
@@ -262,6 +263,49 @@ static void step_once(void) {
   if (memcmp(other.now, record.now, sizeof(nophtris_chord) + 2 * GUARD) != 0) fault("a bar's record");
 }
 
+static unsigned long bars[256];
+
+/* Two lines are lent, now and then the same one twice; the number is often near the bar counts. The answer is what a walk over the lines
+ * says. */
+static void bar_once(void) {
+  static piece given[2], numbers[3];
+  static uint8_t bytes[2][LARGEST];
+  size_t n[2], count[2], number;
+  for (int i = 0; i < 2; i++) {
+    n[i] = below(16) ? line_of(bytes[i]) : 0;
+    lend(&given[i], n[i]);
+    memcpy(given[i].now + GUARD, bytes[i], n[i]);
+    memcpy(given[i].before + GUARD, bytes[i], n[i]);
+  }
+  int same = below(16) == 0, other = !same;
+  for (int i = 0; i < 2; i++) {
+    count[i] = 1;
+    for (size_t k = 0; k < n[i & other]; k++) count[i] += bytes[i & other][k] == '|';
+  }
+  switch (below(4)) {
+  case 0: number = count[0] - 1 + below(3); break;
+  case 1: number = count[0] + count[1] - 2 + below(4); break;
+  case 2: number = (size_t)next(); break;
+  default: number = below((unsigned)(count[0] + count[1]));
+  }
+  for (int i = 0; i < 3; i++) lend(&numbers[i], i ? sizeof(size_t) : 1);
+  size_t *place = (size_t *)(void *)(numbers[1].now + GUARD), *size = (size_t *)(void *)(numbers[2].now + GUARD);
+  const uint8_t *body = given[0].now + GUARD, *ending = given[other].now + GUARD;
+  uint8_t r = nophtris_bar(body, n[0], ending, n[other], number, numbers[0].now + GUARD, place, size);
+  bars[r]++;
+  for (int i = 0; i < 2; i++) kept(&given[i], 0, "a line was changed");
+  uint8_t want = n[0] > 4096 || n[other] > 4096 ? 8 : number >= count[0] + count[1] ? 9 : 0;
+  if (r != want) fault("a bar number's answer");
+  for (int i = 0; i < 3; i++) kept(&numbers[i], r ? 0 : i ? sizeof(size_t) : 1, "a number of a bar was written");
+  if (r != 0) return;
+  int second = number >= count[0], which = second & other;
+  size_t from = 0, to, at[2], left = second ? number - count[0] : number;
+  for (; left > 0; from++) left -= bytes[which][from] == '|';
+  for (to = from; to < n[which] && bytes[which][to] != '|';) to++;
+  for (int i = 0; i < 2; i++) memcpy(&at[i], numbers[i + 1].now + GUARD, sizeof at[i]);
+  if (numbers[0].now[GUARD] != second || at[0] != from || at[1] != to - from) fault("a numbered bar's place");
+}
+
 int main(int argc, char **argv) {
   unsigned long calls = argc > 1 ? strtoul(argv[1], NULL, 10) : 1000000;
   state = argc > 2 ? strtoull(argv[2], NULL, 10) : 1;
@@ -269,9 +313,10 @@ int main(int argc, char **argv) {
   silences();
   if (nophtris_read((const uint8_t *)"C", 1, errors, NOPHTRIS_ERRORS, &count, &last) != 0) fault("C is refused");
   for (call_number = 0; call_number < calls; call_number++)
-    switch (call_number % 4) {
+    switch (call_number % 5) {
     case 2: write_once(); break;
     case 3: step_once(); break;
+    case 4: bar_once(); break;
     default: read_once();
     }
   printf("%lu calls, seed %s, no fault\nreading:", calls, argc > 2 ? argv[2] : "1");
@@ -280,6 +325,9 @@ int main(int argc, char **argv) {
   printf("steps:");
   for (int i = 0; i < 256; i++)
     if (steps[i]) printf(" %d: %lu", i, steps[i]);
+  printf("\nbars by number:");
+  for (int i = 0; i < 256; i++)
+    if (bars[i]) printf(" %d: %lu", i, bars[i]);
   printf("\n");
   return 0;
 }

@@ -1,16 +1,18 @@
-/* Nophtris: reads a chord symbol, or a song line bar by bar, and writes a chord's house spelling.
+/* Nophtris: reads a chord symbol, or a song line bar by bar, finds a bar of a song with a second ending by its number, and writes a
+ * chord's house spelling.
  *
  * All functions are proved: they end, read and write nothing but the memory that they are lent, and give the answer that documents 01 and 02 have for any
  * bytes.
  * The proof is of the source; it does not speak of the compiler, of the time a call takes or of its stack.
  *
  * What the caller owes is what C asks of any pointer.
- *   - `text` points to text_len readable bytes, `line` to line_len, `errors` to errors_len writable numbers, `buffer` to buffer_len writable bytes. Where the
- *     length is 0 the pointer is not followed.
- *   - `count`, `chord`, `length`, `position`, `bar_from` and `bar_len` point to one object each and are never NULL, even where the answer leaves them as they
- *     were.
- *   - `errors`, `count` and `length` are aligned as uint16_t is, `position`, `bar_from` and `bar_len` as size_t; text, line, buffer and struct may stand anywhere.
- *   - What a call writes overlaps nothing else that it is lent.
+ *   - `text` points to text_len readable bytes, `line` of nophtris_step to line_len, `body` to body_len, `ending` to ending_len, `errors` to errors_len
+ *     writable numbers, `buffer` to buffer_len writable bytes. Where the length is 0 the pointer is not followed.
+ *   - `count`, `chord`, `length`, `position`, `bar_from`, `bar_len`, and `line`, `from` and `len` of nophtris_bar point to one object each and are
+ *     never NULL, even where the answer leaves them as they were.
+ *   - `errors`, `count` and `length` are aligned as uint16_t is, `position`, `bar_from`, `bar_len`, `from` and `len` as size_t; texts, lines, buffer
+ *     and struct may stand anywhere.
+ *   - What a call writes overlaps nothing else that it is lent. `body` and `ending` are only read, and may be the same line or overlap.
  *
  * No heap, no state between calls, no global memory: calls from several threads need no lock, on memory that they do not share.
  *
@@ -31,10 +33,10 @@ extern "C" {
 
 /* The first number grows when a function or the struct changes its form, the second with a new function and with any other change of an answer. */
 #define NOPHTRIS_VERSION_MAJOR 1
-#define NOPHTRIS_VERSION_MINOR 3
+#define NOPHTRIS_VERSION_MINOR 4
 
 /* The answers. */
-#define NOPHTRIS_ACCEPTED 0     /* read: the struct is filled; written: the spelling stands in the buffer */
+#define NOPHTRIS_ACCEPTED 0     /* read: the struct is filled; written: the spelling stands in the buffer; a bar's number: its place is written */
 #define NOPHTRIS_SHORT_LIST 1   /* the error list holds fewer than 1,028 numbers */
 #define NOPHTRIS_LONG_TEXT 2    /* the text has more than 256 bytes */
 #define NOPHTRIS_NOT_UTF8 3     /* the text is not UTF-8 by RFC 3629 */
@@ -43,11 +45,14 @@ extern "C" {
 #define NOPHTRIS_SHORT_BUFFER 6 /* the buffer holds fewer than 112 bytes */
 #define NOPHTRIS_NO_TEXT 7      /* no accepted text has this root, bass, normalized set and display list */
 #define NOPHTRIS_LONG_LINE 8    /* the song line has more than 4,096 bytes */
+#define NOPHTRIS_NO_BAR 9       /* the bar number is not below the bar counts of body and ending together */
 #define NOPHTRIS_END 255        /* the song line has no more bars; end has no number in the paper */
 
 #define NOPHTRIS_ERRORS 1028    /* the numbers that an error list has to hold: four for each of at most 257 errors */
 #define NOPHTRIS_BUFFER 112     /* the bytes that a buffer has to hold; no spelling is longer */
 #define NOPHTRIS_LINE 4096      /* the most bytes of a song line */
+#define NOPHTRIS_BODY 0         /* the line that has a numbered bar: the body, */
+#define NOPHTRIS_ENDING 1       /* or the ending */
 #define NOPHTRIS_NONE 255       /* no root, no bass */
 #define NOPHTRIS_INTERVALS 23
 
@@ -123,6 +128,17 @@ uint8_t nophtris_read(const uint8_t *text, size_t text_len, uint16_t *errors, si
  * With 8 and 255 all is left as it was. */
 uint8_t nophtris_step(const uint8_t *line, size_t line_len, size_t *position, uint16_t *errors, size_t errors_len, uint16_t *count,
                       nophtris_chord *chord, size_t *bar_from, size_t *bar_len);
+
+/* Where the bar of any number lies in a song with a second ending: two lines of any bytes, whose bars number from 0 through the body and then on through
+ * the ending. Both follow the rule of nophtris_step: a line has one bar more than it has `|`, so that an empty one has one empty bar. The questions are asked
+ * in this order:
+ *   8  NOPHTRIS_LONG_LINE    the body, or the ending, has more than 4,096 bytes;
+ *   9  NOPHTRIS_NO_BAR       the number is not below the two bar counts together;
+ *   0  NOPHTRIS_ACCEPTED     neither: `*line` is NOPHTRIS_BODY or NOPHTRIS_ENDING, and the bar is the `*len` bytes from `*from` on in that line, without
+ *                            its `|`. It has not been read: hand these bytes to nophtris_read.
+ * With 8 and 9 all is left as it was. Since version 1.4. */
+uint8_t nophtris_bar(const uint8_t *body, size_t body_len, const uint8_t *ending, size_t ending_len, size_t number, uint8_t *line, size_t *from,
+                     size_t *len);
 
 /* Writes the house spelling of a record of any bytes. The questions are asked in this order:
  *   6  NOPHTRIS_SHORT_BUFFER the buffer holds fewer than 112 bytes;

@@ -73,6 +73,16 @@ mod c {
             bar_from: *mut usize,
             bar_len: *mut usize,
         ) -> u8;
+        pub fn nophtris_bar(
+            body: *const u8,
+            body_len: usize,
+            ending: *const u8,
+            ending_len: usize,
+            number: usize,
+            line: *mut u8,
+            from: *mut usize,
+            len: *mut usize,
+        ) -> u8;
         pub fn nophtris_write(chord: *const super::Chord, buffer: *mut u8, buffer_len: usize, length: *mut u16) -> u8;
     }
 }
@@ -135,6 +145,38 @@ impl<'a> Iterator for Bars<'a> {
             )
         };
         (number != END).then(|| (&self.line[from..from + len], answer(number, chord, &errors, count)))
+    }
+}
+
+/// Why a bar number has no bar, with the paper's numbers 8 and 9.
+#[derive(Clone, Copy, Debug, PartialEq, Eq)]
+pub enum BarRefusal {
+    LongLine,
+    NoBar,
+}
+
+/// The bar of a number in a body and an ending, whose bars number from 0 through the one and then on through the other: a part of whichever
+/// line has it.
+pub fn bar<'a>(body: &'a [u8], ending: &'a [u8], number: usize) -> Result<&'a [u8], BarRefusal> {
+    let (mut line, mut from, mut len) = (0, 0, 0);
+    // SAFETY: as above.
+    let answer = unsafe {
+        c::nophtris_bar(
+            body.as_ptr(),
+            body.len(),
+            ending.as_ptr(),
+            ending.len(),
+            number,
+            &mut line,
+            &mut from,
+            &mut len,
+        )
+    };
+    match answer {
+        0 => Ok(&[body, ending][line as usize][from..from + len]),
+        8 => Err(BarRefusal::LongLine),
+        9 => Err(BarRefusal::NoBar),
+        n => unreachable!("{n}"),
     }
 }
 

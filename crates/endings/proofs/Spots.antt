@@ -67,7 +67,53 @@ module _ (l : List ℕ) (k : ℕ) where
       let f = found-at s e in
       ap (spotFrom a l) (f .1) ∙ ap (λ (n : ℕ). record { answer = a; from = startOf l k; to = n }) (end-at-start l k (f .0))
 
--- ---- the way to a spot: a line is over its limit, the bar lies in the body or in the ending, or there is none
+-- ---- the five cases of a spot
+
+module _ (body ending : List ℕ) (k : ℕ) where
+  pub spot-body-over : longestLine < length body → spotOf body ending k ≡ nowhere TooLong
+  unfolding spotOf
+  spot-body-over h = simp (lt-ltb _ _ h)
+
+  module _ (hb : length body ≤ longestLine) where
+    pub spot-ending-over : longestLine < length ending → spotOf body ending k ≡ nowhere TooLong
+    unfolding spotOf
+    spot-ending-over h = simp (le-ltb _ _ hb, lt-ltb _ _ h)
+
+    module _ (he : length ending ≤ longestLine) where
+      spot-in-body : k < barCount body → spotOf body ending k ≡ spotIn Body body k
+      unfolding spotOf
+      spot-in-body h = simp (le-ltb _ _ hb, le-ltb _ _ he, lt-ltb _ _ h)
+
+      spot-in-ending : barCount body ≤ k → k < barCount body + barCount ending
+          → spotOf body ending k ≡ spotIn Ending ending (k - barCount body)
+      unfolding spotOf
+      spot-in-ending h g = simp (le-ltb _ _ hb, le-ltb _ _ he, le-ltb _ _ h, lt-ltb _ _ g)
+
+      spot-none : barCount body + barCount ending ≤ k → spotOf body ending k ≡ nowhere NoBar
+      unfolding spotOf
+      spot-none g =
+          let h : barCount body ≤ k = omega (arith, g) in
+          simp (le-ltb _ _ hb, le-ltb _ _ he, le-ltb _ _ h, le-ltb _ _ g)
+
+      -- from the starts that were found
+      pub found-body : (s : ℕ) → startIn body k ≡ At s → spotFrom Body body s ≡ spotOf body ending k
+      found-body s e = spot-from body k Body s e ∙ sym (spot-in-body (found-at body k s e .0))
+
+      pub found-ending : (m s : ℕ) → startIn body k ≡ Beyond m → startIn ending m ≡ At s → spotFrom Ending ending s ≡ spotOf body ending k
+      found-ending m s e f =
+          let b = found-beyond body k m e in
+          let h = found-at ending m s f .0 in
+          spot-from ending m Ending s f
+          ∙ ap (spotIn Ending ending) (b .1)
+          ∙ sym (spot-in-ending (b .0) (omega (arith, b .0, b .1, h)))
+
+      pub found-none : (m n : ℕ) → startIn body k ≡ Beyond m → startIn ending m ≡ Beyond n → nowhere NoBar ≡ spotOf body ending k
+      found-none m n e f =
+          let b = found-beyond body k m e in
+          let h = found-beyond ending m n f .0 in
+          sym (spot-none (omega (arith, b .0, b .1, h)))
+
+-- ---- and back, the way to a spot: a line is over its limit, the bar lies in the body or in the ending, or there is none
 
 pub data Way (body ending : List ℕ) (k : ℕ) : Spot → Type 0 where
   body-over : longestLine < length body → Way body ending k (nowhere TooLong)
@@ -78,60 +124,36 @@ pub data Way (body ending : List ℕ) (k : ℕ) : Spot → Type 0 where
   none : length body ≤ longestLine → length ending ≤ longestLine → barCount body + barCount ending ≤ k → Way body ending k (nowhere NoBar)
 
 pub way : (body ending : List ℕ) (k : ℕ) → Way body ending k (spotOf body ending k)
-unfolding spotOf
 way body ending k =
     by (ltb longestLine (length body)) (ltb longestLine (length ending)) (ltb k (barCount body)) (ltb k (barCount body + barCount ending))
     refl refl refl refl
   where
+    is : {s : Spot} → spotOf body ending k ≡ s → Way body ending k s → Way body ending k (spotOf body ending k)
+    is e w = subst (Way body ending k) (sym e) w
+
     by : (s t u v : Bool) → ltb longestLine (length body) ≡ s → ltb longestLine (length ending) ≡ t → ltb k (barCount body) ≡ u
-        → ltb k (barCount body + barCount ending) ≡ v
-        → Way body ending k (cond s (nowhere TooLong) (cond t (nowhere TooLong)
-        (cond u (spotIn Body body k) (cond v (spotIn Ending ending (k - barCount body)) (nowhere NoBar)))))
-    by true t u v e f g h = body-over (ltb-true longestLine (length body) e)
-    by false true u v e f g h = ending-over (ltb-false longestLine (length body) e) (ltb-true longestLine (length ending) f)
+        → ltb k (barCount body + barCount ending) ≡ v → Way body ending k (spotOf body ending k)
+    by true t u v e f g h = let b = ltb-true longestLine (length body) e in is (spot-body-over body ending k b) (body-over b)
+    by false true u v e f g h =
+        let b = ltb-false longestLine (length body) e in
+        let o = ltb-true longestLine (length ending) f in
+        is (spot-ending-over body ending k b o) (ending-over b o)
     by false false true v e f g h =
-        in-body (ltb-false longestLine (length body) e) (ltb-false longestLine (length ending) f) (ltb-true k (barCount body) g)
+        let b = ltb-false longestLine (length body) e in
+        let o = ltb-false longestLine (length ending) f in
+        let i = ltb-true k (barCount body) g in
+        is (spot-in-body body ending k b o i) (in-body b o i)
     by false false false true e f g h =
-        in-ending (ltb-false longestLine (length body) e) (ltb-false longestLine (length ending) f) (ltb-false k (barCount body) g)
-        (ltb-true k (barCount body + barCount ending) h)
+        let b = ltb-false longestLine (length body) e in
+        let o = ltb-false longestLine (length ending) f in
+        let i = ltb-false k (barCount body) g in
+        let j = ltb-true k (barCount body + barCount ending) h in
+        is (spot-in-ending body ending k b o i j) (in-ending b o i j)
     by false false false false e f g h =
-        none (ltb-false longestLine (length body) e) (ltb-false longestLine (length ending) f)
-        (ltb-false k (barCount body + barCount ending) h)
-
--- ---- from the starts that were found to the spot
-
-module _ (body ending : List ℕ) (k : ℕ) (hb : length body ≤ longestLine) (he : length ending ≤ longestLine) where
-  pub spot-in-body : k < barCount body → spotOf body ending k ≡ spotIn Body body k
-  unfolding spotOf
-  spot-in-body h = simp (le-ltb _ _ hb, le-ltb _ _ he, lt-ltb _ _ h)
-
-  pub spot-in-ending : barCount body ≤ k → k < barCount body + barCount ending
-      → spotOf body ending k ≡ spotIn Ending ending (k - barCount body)
-  unfolding spotOf
-  spot-in-ending h g = simp (le-ltb _ _ hb, le-ltb _ _ he, le-ltb _ _ h, lt-ltb _ _ g)
-
-  pub spot-in-none : barCount body + barCount ending ≤ k → spotOf body ending k ≡ nowhere NoBar
-  unfolding spotOf
-  spot-in-none g =
-      let h : barCount body ≤ k = omega (arith, g) in
-      simp (le-ltb _ _ hb, le-ltb _ _ he, le-ltb _ _ h, le-ltb _ _ g)
-
-  pub found-body : (s : ℕ) → startIn body k ≡ At s → spotFrom Body body s ≡ spotOf body ending k
-  found-body s e = spot-from body k Body s e ∙ sym (spot-in-body (found-at body k s e .0))
-
-  pub found-ending : (m s : ℕ) → startIn body k ≡ Beyond m → startIn ending m ≡ At s → spotFrom Ending ending s ≡ spotOf body ending k
-  found-ending m s e f =
-      let b = found-beyond body k m e in
-      let h = found-at ending m s f .0 in
-      spot-from ending m Ending s f
-      ∙ ap (spotIn Ending ending) (b .1)
-      ∙ sym (spot-in-ending (b .0) (omega (arith, b .0, b .1, h)))
-
-  pub found-none : (m n : ℕ) → startIn body k ≡ Beyond m → startIn ending m ≡ Beyond n → nowhere NoBar ≡ spotOf body ending k
-  found-none m n e f =
-      let b = found-beyond body k m e in
-      let h = found-beyond ending m n f .0 in
-      sym (spot-in-none (omega (arith, b .0, b .1, h)))
+        let b = ltb-false longestLine (length body) e in
+        let o = ltb-false longestLine (length ending) f in
+        let i = ltb-false k (barCount body + barCount ending) h in
+        is (spot-none body ending k b o i) (none b o i)
 
 -- ---- a spot lies in its line
 

@@ -19,12 +19,12 @@ use Rattle.endings.specs.declared.Spot.{Spot}
 use Rattle.nophtris.specs.Boundary.{lineNumber}
 use Rattle.theorems.proofs.CSongs as songs
 use Rattle.theorems.proofs.CSongs.{c-reads-at}
-use Rattle.theorems.proofs.Endings.{cut-bar, each-once, has-bar, in-order, located, no-bar, some-from, spot-gives, spot-numbered, starts-at}
+use Rattle.theorems.proofs.Endings.{cut-bar, each-once, has-bar, in-order, located, no-bar, some-from, spot-by-number, spot-gives, starts-at}
 use Rattle.theorems.proofs.Songs.{Any}
 use Rattle.theorems.proofs.Walks.{nth-call}
-use Rattle.theorems.specs.CEndings.{Asked, BarIsStep, BarNumbered, BarUntouched, BarsInOrder, Call, EachOnce, Gives, cutBy, lineAt}
+use Rattle.theorems.specs.CEndings.{Asked, BarByNumber, BarIsStep, BarUntouched, BarsInOrder, Call, EachOnce, Gives, cutBy, lineAt}
 use Rattle.theorems.specs.CSong as song
-use Rattle.theorems.specs.Endings.{Nth, Numbered, bothBars, cutAt, inLine}
+use Rattle.theorems.specs.Endings.{ByNumber, Nth, bothBars, cutAt, inLine}
 use Rattle.theorems.specs.Song.{Run}
 
 -- ---- an answer, from its number and its line
@@ -86,8 +86,8 @@ module _ (body ending : List ℕ) (k : ℕ) (c : Call) (d : Asked body ending k 
 
 -- ---- one number
 
-renumbered : {body ending : List ℕ} {k : ℕ} {E N B G E′ N′ B′ G′ : Type 0} → Numbered body ending k E N B G
-    → E′ ↔ E → N′ ↔ N → B′ ↔ B → G′ ↔ G → Numbered body ending k E′ N′ B′ G′
+renumbered : {body ending : List ℕ} {k : ℕ} {E N B G E′ N′ B′ G′ : Type 0} → ByNumber body ending k E N B G
+    → E′ ↔ E → N′ ↔ N → B′ ↔ B → G′ ↔ G → ByNumber body ending k E′ N′ B′ G′
 renumbered m e n b g =
     record {
       eight = (λ x. m .eight .0 (e .0 x), λ x. e .1 (m .eight .1 x));
@@ -96,11 +96,11 @@ renumbered m e n b g =
       inEnding = (λ x. m .inEnding .0 (g .0 x), λ x. g .1 (m .inEnding .1 x));
     }
 
-pub c-bar-numbered : BarNumbered
-c-bar-numbered body ending k c d =
+pub c-bar-by-number : BarByNumber
+c-bar-by-number body ending k c d =
     let a = spotOf body ending k .answer in
     let line = line-is body ending k c d in
-    renumbered (spot-numbered body ending k (spotOf body ending k) refl)
+    renumbered (spot-by-number body ending k (spotOf body ending k) refl)
     (λ x. answer-told a (sym (d .number) ∙ x) refl, λ e. d .number ∙ ap numberOf e)
     (λ x. answer-told a (sym (d .number) ∙ x) refl, λ e. d .number ∙ ap numberOf e) (
       λ x. answer-told a (sym (d .number) ∙ x .0) (sym (line (x .0)) ∙ x .1),

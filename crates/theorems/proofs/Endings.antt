@@ -1,7 +1,7 @@
 -- Second endings: the spot of a number by the way to it (`way`), then the numbers in order, and the steps on a line by `nth-call`.
 -- Assumes nothing.
 use mathlib.Core.Bool.{Bool, true, false}
-use mathlib.Core.List.{List, [], _∷_, map}
+use mathlib.Core.List.{List, [], _∷_, _++_, map}
 use mathlib.Core.Logic.{_⊎_, inl, inr}
 use mathlib.Core.Path.{_≡_, refl, sym, ap, subst, _∙_}
 use Prim.Native.Nat.{ℕ, suc, _+_, _-_, _≤_, _<_}
@@ -26,7 +26,7 @@ use Rattle.endings.specs.declared.Spot.{Spot}
 use Rattle.line_reader.specs.declared.LineReader.{LineReader}
 use Rattle.theorems.proofs.Songs.{Any, Holds, next-reads-at, reads-at}
 use Rattle.theorems.proofs.Walks.{from-start, nth-call}
-use Rattle.theorems.specs.Endings.{BarGives, BarIsNext, BarIsStep, BarsInOrder, Counting, EachOnce, Numbered, Short, SpotGives, SpotNumbered, SpotsInOrder, bothBars, cutAt, inLine}
+use Rattle.theorems.specs.Endings.{BarGives, BarIsNext, BarIsStep, BarsInOrder, ByNumber, Counting, EachOnce, OwnBytes, Short, SpotByNumber, SpotGives, SpotsInOrder, bothBars, cutAt, inLine}
 use Rattle.theorems.specs.Song.{Answers, CallReads, Calls, NextCall, NextCalls, NextReads, Run, barsFrom, call, done}
 
 -- ---- one number
@@ -44,37 +44,37 @@ fit body ending h (inl g) = absurd (omega (arith, h .0, g))
 fit body ending h (inr g) = absurd (omega (arith, h .1, g))
 
 module _ (body ending : List ℕ) (k : ℕ) where
-  way-numbered : {o : Spot} → Way body ending k o
-      → Numbered body ending k (o .answer ≡ TooLong) (o .answer ≡ NoBar) (o .answer ≡ Body) (o .answer ≡ Ending)
-  way-numbered (body-over h) =
+  way-by-number : {o : Spot} → Way body ending k o
+      → ByNumber body ending k (o .answer ≡ TooLong) (o .answer ≡ NoBar) (o .answer ≡ Body) (o .answer ≡ Ending)
+  way-by-number (body-over h) =
       record {
         eight = (λ _. inl h, λ _. refl);
         nine = (λ x. absurd (omega (arith, ap placeOf x)), λ z. absurd (omega (arith, h, z .0 .0)));
         inBody = (λ x. absurd (omega (arith, ap placeOf x)), λ z. absurd (omega (arith, h, z .0 .0)));
         inEnding = (λ x. absurd (omega (arith, ap placeOf x)), λ z. absurd (omega (arith, h, z .0 .0)));
       }
-  way-numbered (ending-over h g) =
+  way-by-number (ending-over h g) =
       record {
         eight = (λ _. inr g, λ _. refl);
         nine = (λ x. absurd (omega (arith, ap placeOf x)), λ z. absurd (omega (arith, g, z .0 .1)));
         inBody = (λ x. absurd (omega (arith, ap placeOf x)), λ z. absurd (omega (arith, g, z .0 .1)));
         inEnding = (λ x. absurd (omega (arith, ap placeOf x)), λ z. absurd (omega (arith, g, z .0 .1)));
       }
-  way-numbered (in-body h g i) =
+  way-by-number (in-body h g i) =
       record {
         eight = (λ x. absurd (omega (arith, ap placeOf x)), fit body ending (h, g));
         nine = (λ x. absurd (omega (arith, ap placeOf x)), λ z. absurd (omega (arith, i, z .1)));
         inBody = (λ _. ((h, g), i), λ _. refl);
         inEnding = (λ x. absurd (omega (arith, ap placeOf x)), λ z. absurd (omega (arith, i, z .1)));
       }
-  way-numbered (in-ending h g i j) =
+  way-by-number (in-ending h g i j) =
       record {
         eight = (λ x. absurd (omega (arith, ap placeOf x)), fit body ending (h, g));
         nine = (λ x. absurd (omega (arith, ap placeOf x)), λ z. absurd (omega (arith, j, z .1)));
         inBody = (λ x. absurd (omega (arith, ap placeOf x)), λ z. absurd (omega (arith, i, z .1)));
         inEnding = (λ _. ((h, g), i, j), λ _. refl);
       }
-  way-numbered (none h g i) =
+  way-by-number (none h g i) =
       record {
         eight = (λ x. absurd (omega (arith, ap placeOf x)), fit body ending (h, g));
         nine = (λ _. ((h, g), i), λ _. refl);
@@ -82,10 +82,10 @@ module _ (body ending : List ℕ) (k : ℕ) where
         inEnding = (λ x. absurd (omega (arith, ap placeOf x)), λ z. absurd (omega (arith, i, z .2)));
       }
 
-pub spot-numbered : SpotNumbered
-spot-numbered body ending k s e =
-    subst (λ (x : Spot). Numbered body ending k (x .answer ≡ TooLong) (x .answer ≡ NoBar) (x .answer ≡ Body) (x .answer ≡ Ending))
-    (sym e) (way-numbered body ending k (way body ending k))
+pub spot-by-number : SpotByNumber
+spot-by-number body ending k s e =
+    subst (λ (x : Spot). ByNumber body ending k (x .answer ≡ TooLong) (x .answer ≡ NoBar) (x .answer ≡ Body) (x .answer ≡ Ending))
+    (sym e) (way-by-number body ending k (way body ending k))
 
 -- ---- the bar that a number has, in its line
 
@@ -139,6 +139,13 @@ part-of : (body ending : Line) (k : ℕ) (r : NumberedBar) → NumberedBy body e
     → Part (lineOf (r .spot .answer) body ending) (r .spot .from) (r .spot .to) (r .bar)
 part-of body ending k r d =
     subst (λ (s : Spot). Part (lineOf (s .answer) body ending) (s .from) (s .to) (r .bar)) (sym (d .spot)) (d .bar)
+
+-- a part from a bar's start on, of its length, is the bar
+bar-part : (l : Line) (i : ℕ) (r : Line) → i < barCount (now l)
+    → Part l (startOf (now l) i) (startOf (now l) i + length (barOf (now l) i)) r → now r ≡ barOf (now l) i
+bar-part l i r h p =
+    let n : startOf (now l) i + length (barOf (now l) i) - startOf (now l) i ≡ length (barOf (now l) i) = omega arith in
+    p .bytes ∙ ap (λ (x : ℕ). take x (drop (startOf (now l) i) (now l))) n ∙ bar-bytes (now l) i h
 
 now-line : (body ending : Line) (a : Answer) → now (lineOf a body ending) ≡ lineOf a (now body) (now ending)
 now-line body ending TooLong = refl
@@ -222,7 +229,7 @@ module _ (body ending : List ℕ) where
 
   -- a spot behind the last bar
   pub no-bar : (k : ℕ) (s : Spot) → s ≡ spotOf body ending k → Short body ending → length (bothBars body ending) ≤ k → s .answer ≡ NoBar
-  no-bar k s e h g = spot-numbered body ending k s e .nine .1 (h, omega (arith, g, both-count))
+  no-bar k s e h g = spot-by-number body ending k s e .nine .1 (h, omega (arith, g, both-count))
 
   -- what a spot below the count gives
   pub spot-gives : (k : ℕ) (s : Spot) → s ≡ spotOf body ending k → Short body ending → k < length (bothBars body ending)
@@ -256,6 +263,22 @@ bars-in-order body ending rs h run =
             part = subst (λ (a : Answer). Part (lineOf a body ending) (r .spot .from) (r .spot .to) (r .bar)) (b .1 .0) p;
           },
         )
+
+pub own-bytes : OwnBytes
+own-bytes body ending k r p h g = by (way (now body) (now ending) k) p
+  where
+    by : {o : Spot} → Way (now body) (now ending) k o → Part (lineOf (o .answer) body ending) (o .from) (o .to) r
+        → now r ≡ getD (barsOf (now body) ++ barsOf (now ending)) k []
+    by (body-over m) q = absurd (omega (arith, h .0, m))
+    by (ending-over m n) q = absurd (omega (arith, h .1, n))
+    by (in-body m n i) q = bar-part body k r i q ∙ sym (List·getD-append (barsOf (now body)) (barsOf (now ending)) [] k i)
+    by (in-ending m n i j) q =
+        let k² = k - barCount (now body) in
+        let e : barCount (now body) + k² ≡ k = omega (arith, i) in
+        bar-part ending k² r (omega (arith, i, j)) q
+        ∙ sym (getD-append-add (barsOf (now body)) (barsOf (now ending)) k² [])
+        ∙ ap (λ (x : ℕ). getD (barsOf (now body) ++ barsOf (now ending)) x []) e
+    by (none m n i) q = absurd (omega (arith, g, i))
 
 -- ---- the steps of [1] on the line of a bar
 

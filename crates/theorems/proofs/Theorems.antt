@@ -1,8 +1,8 @@
 -- Every statement of specs/ has its proof.
 -- Assumes nothing.
-use Rattle.theorems.proofs.CEndings.{c-bar-is-step, c-bar-numbered, c-bar-untouched, c-bars-in-order, c-each-once}
+use Rattle.theorems.proofs.CEndings.{c-bar-by-number, c-bar-is-step, c-bar-untouched, c-bars-in-order, c-each-once}
 use Rattle.theorems.proofs.CSongs.{c-all-bars, c-always-eight, c-bars-from, c-handed-out, c-step-turns}
-use Rattle.theorems.proofs.Endings.{bar-is-next, bar-is-step, bars-in-order, each-once, spot-numbered, spots-in-order}
+use Rattle.theorems.proofs.Endings.{bar-is-next, bar-is-step, bars-in-order, each-once, own-bytes, spot-by-number, spots-in-order}
 use Rattle.theorems.proofs.Raised.{raised-tokens}
 use Rattle.theorems.proofs.Readings.{c-read-errors, c-read-numbered, c-read-record, c-read-untouched, read-apart, read-errors, read-numbered, read-record, read-untouched}
 use Rattle.theorems.proofs.Silent.{blank-texts, c-read-blank, c-silent-bar, c-write-nothing, c-write-rootless, empty-spelling, read-blank, rootless, silent-bar, write-nothing, write-rootless}
@@ -69,13 +69,14 @@ theorems =
       cSilentBar = c-silent-bar;
       cWriteNothing = c-write-nothing;
       cWriteRootless = c-write-rootless;
-      spotNumbered = spot-numbered;
+      spotByNumber = spot-by-number;
+      ownBytes = own-bytes;
       eachOnce = each-once;
       spotsInOrder = spots-in-order;
       barsInOrder = bars-in-order;
       barIsStep = bar-is-step;
       barIsNext = bar-is-next;
-      cBarNumbered = c-bar-numbered;
+      cBarByNumber = c-bar-by-number;
       cBarUntouched = c-bar-untouched;
       cEachOnce = c-each-once;
       cBarsInOrder = c-bars-in-order;

@@ -11,7 +11,7 @@ use Rattle.endings.specs.declared.Answer.{Answer}
 use Rattle.nophtris.specs.Boundary.{lineNumber}
 use Rattle.nophtris.specs.State.{Bar}
 use Rattle.theorems.specs.CSong as song
-use Rattle.theorems.specs.Endings.{Counting, Nth, Numbered, Short, bothBars}
+use Rattle.theorems.specs.Endings.{ByNumber, Counting, Nth, Short, bothBars}
 use Rattle.theorems.specs.Song.{Answers, Run}
 
 -- a call: the line was w and is w′, the bar's place f and f′ and its length l and l′, and the answer is r
@@ -32,10 +32,10 @@ Asked body ending k c = Bar body ending k (c .w) (c .w′) (c .f) (c .f′) (c .
 abbrev pub lineAt : {X : Type 0} → ℕ → X → X → X
 lineAt w body ending = cond (eqb w 0) body ending
 
-abbrev pub BarNumbered : Type 0
-BarNumbered =
+abbrev pub BarByNumber : Type 0
+BarByNumber =
     (body ending : List ℕ) (k : ℕ) (c : Call) → Asked body ending k c
-    → Numbered body ending k (c .r ≡ 8) (c .r ≡ 9) ((c .r ≡ 0) × (c .w′ ≡ 0)) ((c .r ≡ 0) × (c .w′ ≡ 1))
+    → ByNumber body ending k (c .r ≡ 8) (c .r ≡ 9) ((c .r ≡ 0) × (c .w′ ≡ 0)) ((c .r ≡ 0) × (c .w′ ≡ 1))
 
 -- "a new number leaves lent memory untouched"
 abbrev pub BarUntouched : Type 0
@@ -62,7 +62,8 @@ BarsInOrder =
     (body ending : List ℕ) (cs : List Call) → Short body ending → Run (Counting (Asked body ending)) 0 cs
     → Answers (Gives body ending) (λ (c : Call). c .r ≡ 9) cs (bothBars body ending)
 
--- a step begun at position 0 of a bar's line, as many bars on as the bar is, reads that bar in its place
+-- reading bar k is the k-th step of [1] on its line: of the steps from position 0 of that line on, the one that has the bar's number there
+-- reads these bytes, in the same place
 abbrev pub BarIsStep : Type 0
 BarIsStep =
     (body ending : List ℕ) (k : ℕ) (c : Call) → Asked body ending k c → c .r ≡ 0

@@ -80,7 +80,7 @@ pub data Run {S C : Type 0} (does : S → C → S → Type 0) : S → List C →
   done : {s : S} → Run does s []
   call : {s s′ : S} {cs : List C} (c : C) → does s c s′ → Run does s′ cs → Run does s (c ∷ cs)
 
--- the calls read these bars in order, and all calls after them say end
+-- the calls read these bars in order, and all calls after them say end, or of bar numbers 9
 abbrev pub Answers : {B C : Type 0} → (B → C → Type 0) → (C → Type 0) → List C → List B → Type 0
 Answers reads ends [] bs = Unit
 Answers reads ends (c ∷ cs) [] = ends c × Answers reads ends cs []

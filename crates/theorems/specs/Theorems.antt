@@ -77,13 +77,14 @@ pub record Theorems : Type 0 where
   pub cWriteNothing : silent.CWriteNothing
   pub cWriteRootless : silent.CWriteRootless
   -- second endings: one bar number, all of them in order, and the steps on the line that has the bar
-  pub spotNumbered : endings.SpotNumbered
+  pub spotByNumber : endings.SpotByNumber
+  pub ownBytes : endings.OwnBytes
   pub eachOnce : endings.EachOnce
   pub spotsInOrder : endings.SpotsInOrder
   pub barsInOrder : endings.BarsInOrder
   pub barIsStep : endings.BarIsStep
   pub barIsNext : endings.BarIsNext
-  pub cBarNumbered : C-endings.BarNumbered
+  pub cBarByNumber : C-endings.BarByNumber
   pub cBarUntouched : C-endings.BarUntouched
   pub cEachOnce : C-endings.EachOnce
   pub cBarsInOrder : C-endings.BarsInOrder

@@ -2,9 +2,7 @@
 -- Assumes nothing.
 use mathlib.Core.Path.{sym, _∙_}
 use borrow.Author.Needs.{needs}
-use borrow.Author.Tests.{lt-ltb, le-ltb}
-use Rattle.endings.specs.Endings.{spotOf}
-use Rattle.endings.proofs.Spots.{found-body, found-ending, found-none, found-within}
+use Rattle.endings.proofs.Spots.{found-body, found-ending, found-none, found-within, spot-body-over, spot-ending-over}
 use Rattle.endings.proofs.spot_of.Statement.{statement}
 use Rattle.endings.proofs.spot_of.Tie as tie
 
@@ -12,15 +10,13 @@ no-spot-requires : tie.Need-no-spot-requires
 no-spot-requires c κs = search needs
 
 returns : tie.Need-returns
-unfolding spotOf
-returns c = simp (lt-ltb _ _ (c .before .if1 .taken), c .no-spot .ensures)
+returns c = c .no-spot .ensures ∙ sym (spot-body-over _ _ _ (c .before .if1 .taken))
 
 no-spot-requires-2 : tie.Need-no-spot-requires-2
 no-spot-requires-2 c κs = search needs
 
 returns-2 : tie.Need-returns-2
-unfolding spotOf
-returns-2 c = simp (le-ltb _ _ (c .before .before .if1 .left), lt-ltb _ _ (c .before .if2 .taken), c .no-spot2 .ensures)
+returns-2 c = c .no-spot2 .ensures ∙ sym (spot-ending-over _ _ _ (c .before .before .if1 .left) (c .before .if2 .taken))
 
 start-of-requires : tie.Need-start-of-requires
 start-of-requires c κs = search needs
