@@ -33,17 +33,20 @@ split-last (b ∷ l) h = turn (eqb b stroke) (split-last l) h
     turn true ih g = absurd (omega (arith, g))
     turn false ih g = ap (onto b) (ih (omega (arith, g)))
 
+pub length-onto : (b : ℕ) (bs : List (List ℕ)) → 0 < length bs → length (onto b bs) ≡ length bs
+length-onto b [] h = absurd (omega (arith, h))
+length-onto b (x ∷ xs) h = refl
+
 -- "the bar count is one more than the count of `|`"
 pub bar-count : (l : List ℕ) → length (barsOf l) ≡ suc (strokes l)
 unfolding barsOf strokes
 bar-count [] = refl
 bar-count (b ∷ l) = turn (eqb b stroke) (barsOf l) (bar-count l)
   where
-    length-onto : (bs : List (List ℕ)) → 0 < length bs → length (onto b bs) ≡ length bs
-    length-onto [] h = absurd (omega (arith, h))
-    length-onto (x ∷ xs) h = refl
-
     turn : (t : Bool) (bs : List (List ℕ)) → length bs ≡ suc (strokes l)
         → length (cond t ([] ∷ bs) (onto b bs)) ≡ suc (cond t (suc (strokes l)) (strokes l))
     turn true bs h = ap suc h
-    turn false bs h = length-onto bs (omega (arith, h)) ∙ h
+    turn false bs h = length-onto b bs (omega (arith, h)) ∙ h
+
+pub some-bar : (l : List ℕ) → 0 < length (barsOf l)
+some-bar l = omega (arith, bar-count l)

@@ -11,20 +11,13 @@ use lib.ListN.{length, getD, take, drop, drop-of-length-le}
 use lib.Seq.{drop-cons}
 use borrow.Author.Tests.{eq-eqb, le-ltb, lt-ltb, ltb-false, ltb-true, ne-eqb}
 use Rattle.bars.proofs.Laws.{bar-take}
-use Rattle.bars.proofs.Splits.{bar-count}
+use Rattle.bars.proofs.Splits.{length-onto, some-bar}
 use Rattle.bars.specs.Bars.{stroke, onto, barsOf, bar, barAt, barEnd}
 use Rattle.endings.specs.Endings.{spans, barCount, barOf, startOf}
 use Rattle.endings.specs.State.{startIn}
 use Rattle.endings.specs.declared.Start.the-variants.{At, Beyond}
 
-pub some-bar : (l : List ℕ) → 0 < barCount l
-some-bar l = omega (arith, bar-count l)
-
 -- ---- a byte in front of the first bar
-
-length-onto : (b : ℕ) (bs : List (List ℕ)) → 0 < length bs → length (onto b bs) ≡ length bs
-length-onto b [] h = absurd (omega (arith, h))
-length-onto b (x ∷ xs) h = refl
 
 spans-onto : (b k : ℕ) (bs : List (List ℕ)) → 0 < length bs → spans (take (suc k) (onto b bs)) ≡ suc (spans (take (suc k) bs))
 unfolding spans

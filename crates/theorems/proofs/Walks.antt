@@ -9,7 +9,7 @@ use lib.Dec.{eqb, ltb}
 use lib.ListN.{drop, length, length-drop, take}
 use lib.Seq.{drop-drop}
 use borrow.Author.Tests.{eqb-true, le-ltb, lt-ltb, ltb-false, ltb-true}
-use Rattle.bars.proofs.Splits.{bar-count, split-here, split-last}
+use Rattle.bars.proofs.Splits.{bar-count, some-bar, split-here, split-last}
 use Rattle.bars.specs.Bars.{barAt, barEnd, barsOf, onto, stroke, strokes}
 use Rattle.endings.specs.Endings.{spans}
 use Rattle.parser.specs.All.{All}
@@ -17,9 +17,6 @@ use Rattle.theorems.specs.Endings.{Nth}
 use Rattle.theorems.specs.Song.{Answers, BarsSplit, Run, barsFrom, call, done, joined}
 
 -- ---- the bars of a line: by its bytes
-
-some-bar : (l : List ℕ) → 0 < length (barsOf l)
-some-bar l = omega (arith, bar-count l)
 
 -- a byte in front of the first bar is in front of them all
 joined-onto : (b : ℕ) (bs : List (List ℕ)) → joined (onto b bs) ≡ b ∷ joined bs
