@@ -1,6 +1,7 @@
-/* The last bar of a body and an ending of 4,096 bytes each by its number, against a caller in C that looks at each byte once, in turns. The
- * file of ordinary symbols is the first argument. Prints for each pair of lines ns per byte of the two and their ratio; each is the median of
- * the rounds. With a second argument it makes one call on the first pair and prints where the lines stand, for a trace of the loads. */
+/* The last bar of a body and an ending of 4,096 bytes each by its number, against a caller in C that looks at each byte once, in turns.
+ * The file of ordinary symbols is the first argument. Prints for each pair of lines ns per byte of the two and their ratio; each is the
+ * median of the rounds. With a second argument it makes one call on the first pair and prints where the lines stand, for a trace of the
+ * loads. */
 #include <stdio.h>
 #include <string.h>
 

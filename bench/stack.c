@@ -1,5 +1,5 @@
-/* How deep the functions go: each text is read, as a text and as a song line, a bar of it is found by its number, and each record written, on a
- * stack of its own that was painted before. Prints the bytes used. */
+/* How deep the functions go: each text is read, as a text and as a song line, a bar of it is found by its number, and each record
+ * written, on a stack of its own that was painted before. Prints the bytes used. */
 #include <pthread.h>
 #include <stdint.h>
 #include <stdio.h>

@@ -1,7 +1,7 @@
-/* Calls the functions of the library with random bytes, changed cards, song lines, bar numbers and changed records, with every list, buffer
- * and line length around each limit, and checks what the papers say of the lent memory: every lent piece stands between guard bytes, and what
- * a call may not write is as it was.
- * Blank texts of 0 to 300 spaces and the record of no chord, with any one byte changed, come first.
+/* Calls the functions of the library with random bytes, changed cards, song lines, bar numbers and changed records, with every list,
+ * buffer and line length around each limit, and checks what the papers say of the lent memory: every lent piece stands between guard
+ * bytes, and what a call may not write is as it was. Blank texts of 0 to 300 spaces and the record of no chord, with any one byte
+ * changed, come first.
  * usage: boundary CALLS SEED. Prints how often each number came up; ends with status 1 at the first fault. */
 #include <stdint.h>
 #include <stdio.h>

@@ -6,12 +6,12 @@
  * The proof is of the source; it does not speak of the compiler, of the time a call takes or of its stack.
  *
  * What the caller owes is what C asks of any pointer.
- *   - `text` points to text_len readable bytes, `line` of nophtris_step to line_len, `body` to body_len, `ending` to ending_len, `errors` to errors_len
- *     writable numbers, `buffer` to buffer_len writable bytes. Where the length is 0 the pointer is not followed.
- *   - `count`, `chord`, `length`, `position`, `bar_from`, `bar_len`, and `line`, `from` and `len` of nophtris_bar point to one object each and are
- *     never NULL, even where the answer leaves them as they were.
- *   - `errors`, `count` and `length` are aligned as uint16_t is, `position`, `bar_from`, `bar_len`, `from` and `len` as size_t; texts, lines, buffer
- *     and struct may stand anywhere.
+ *   - `text` points to text_len readable bytes, `line` of nophtris_step to line_len, `body` to body_len, `ending` to ending_len, `errors`
+ *     to errors_len writable numbers, `buffer` to buffer_len writable bytes. Where the length is 0 the pointer is not followed.
+ *   - `count`, `chord`, `length`, `position`, `bar_from`, `bar_len`, and `line`, `from` and `len` of nophtris_bar point to one object each
+ *     and are never NULL, even where the answer leaves them as they were.
+ *   - `errors`, `count` and `length` are aligned as uint16_t is, `position`, `bar_from`, `bar_len`, `from` and `len` as size_t; texts,
+ *     lines, buffer and struct may stand anywhere.
  *   - What a call writes overlaps nothing else that it is lent. `body` and `ending` are only read, and may be the same line or overlap.
  *
  * No heap, no state between calls, no global memory: calls from several threads need no lock, on memory that they do not share.
@@ -36,7 +36,7 @@ extern "C" {
 #define NOPHTRIS_VERSION_MINOR 4
 
 /* The answers. */
-#define NOPHTRIS_ACCEPTED 0     /* read: the struct is filled; written: the spelling stands in the buffer; a bar's number: its place is written */
+#define NOPHTRIS_ACCEPTED 0     /* read: the struct is filled; written: the spelling stands in the buffer; a bar: its place is written */
 #define NOPHTRIS_SHORT_LIST 1   /* the error list holds fewer than 1,028 numbers */
 #define NOPHTRIS_LONG_TEXT 2    /* the text has more than 256 bytes */
 #define NOPHTRIS_NOT_UTF8 3     /* the text is not UTF-8 by RFC 3629 */
@@ -129,16 +129,16 @@ uint8_t nophtris_read(const uint8_t *text, size_t text_len, uint16_t *errors, si
 uint8_t nophtris_step(const uint8_t *line, size_t line_len, size_t *position, uint16_t *errors, size_t errors_len, uint16_t *count,
                       nophtris_chord *chord, size_t *bar_from, size_t *bar_len);
 
-/* Where the bar of any number lies in a song with a second ending: two lines of any bytes, whose bars number from 0 through the body and then on through
- * the ending. Both follow the rule of nophtris_step: a line has one bar more than it has `|`, so that an empty one has one empty bar. The questions are asked
- * in this order:
+/* Where the bar of any number lies in a song with a second ending: two lines of any bytes, whose bars number from 0 through the body and
+ * then on through the ending. Both follow the rule of nophtris_step: a line has one bar more than it has `|`, so that an empty one has one
+ * empty bar. The questions are asked in this order:
  *   8  NOPHTRIS_LONG_LINE    the body, or the ending, has more than 4,096 bytes;
  *   9  NOPHTRIS_NO_BAR       the number is not below the two bar counts together;
- *   0  NOPHTRIS_ACCEPTED     neither: `*line` is NOPHTRIS_BODY or NOPHTRIS_ENDING, and the bar is the `*len` bytes from `*from` on in that line, without
- *                            its `|`. It has not been read: hand these bytes to nophtris_read.
+ *   0  NOPHTRIS_ACCEPTED     neither: `*line` is NOPHTRIS_BODY or NOPHTRIS_ENDING, and the bar is the `*len` bytes from `*from` on in that
+ *                            line, without its `|`. It has not been read: hand these bytes to nophtris_read.
  * With 8 and 9 all is left as it was. Since version 1.4. */
-uint8_t nophtris_bar(const uint8_t *body, size_t body_len, const uint8_t *ending, size_t ending_len, size_t number, uint8_t *line, size_t *from,
-                     size_t *len);
+uint8_t nophtris_bar(const uint8_t *body, size_t body_len, const uint8_t *ending, size_t ending_len, size_t number, uint8_t *line,
+                     size_t *from, size_t *len);
 
 /* Writes the house spelling of a record of any bytes. The questions are asked in this order:
  *   6  NOPHTRIS_SHORT_BUFFER the buffer holds fewer than 112 bytes;

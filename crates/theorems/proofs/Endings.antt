@@ -89,7 +89,8 @@ spot-by-number body ending k s e =
 
 -- ---- the bar that a number has, in its line
 
-pub record Located (body ending : List ℕ) (k : ℕ) (s : Spot) (l : List ℕ) (i : ℕ) : Type 0 where
+-- s is the spot of the number k, and that of bar i of the line l
+pub record Located (body : List ℕ) (k : ℕ) (s : Spot) (l : List ℕ) (i : ℕ) : Type 0 where
   pub short : length l ≤ longestLine
   pub has : i < barCount l
   pub from : s .from ≡ startOf l i
@@ -98,7 +99,7 @@ pub record Located (body ending : List ℕ) (k : ℕ) (s : Spot) (l : List ℕ) 
   pub number : k ≡ lineOf (s .answer) i (barCount body + i)
 
 abbrev LocatedBy : List ℕ → List ℕ → ℕ → Spot → Type 0
-LocatedBy body ending k s = Located body ending k s (lineOf (s .answer) body ending) (inLine body (s .answer) k)
+LocatedBy body ending k s = Located body k s (lineOf (s .answer) body ending) (inLine body (s .answer) k)
 
 pub located : (body ending : List ℕ) (k : ℕ) (s : Spot) → s ≡ spotOf body ending k → numberOf (s .answer) ≡ 0 → LocatedBy body ending k s
 located body ending k s e z =
@@ -115,7 +116,7 @@ located body ending k s e z =
 pub each-once : EachOnce
 each-once body ending j k s t e f z a p =
     let m = located body ending j s e z in
-    let n = subst (λ (x : Answer). Located body ending k t (lineOf x body ending) (inLine body x k)) a
+    let n = subst (λ (x : Answer). Located body k t (lineOf x body ending) (inLine body x k)) a
     (located body ending k t f (ap numberOf a ∙ z)) in
     let i : inLine body (s .answer) j ≡ inLine body (s .answer) k =
     start-apart (lineOf (s .answer) body ending) (inLine body (s .answer) j) (inLine body (s .answer) k) (m .has) (n .has)
@@ -153,7 +154,7 @@ now-line body ending NoBar = refl
 now-line body ending Body = refl
 now-line body ending Ending = refl
 
--- the k-th call of a run from a line's start is made where bar k starts
+-- a run from a line's start: the bars from there on are all, and the k-th call is made where bar k starts
 pub some-from : (l : List ℕ) (i : ℕ) → i < barCount l → i < length (barsFrom l 0)
 some-from l i h = subst (λ (bs : List (List ℕ)). i < length bs) (sym (from-start l)) h
 
@@ -309,8 +310,8 @@ pub bar-is-next : BarIsNext
 bar-is-next body ending k r d z x e o cs run c n =
     let l : Line = lineOf (r .spot .answer) body ending in
     let i = inLine (now body) (r .spot .answer) k in
-    let m : Located (now body) (now ending) k (r .spot) (now l) i =
-    subst (λ (y : List ℕ). Located (now body) (now ending) k (r .spot) y i) (sym (now-line body ending (r .spot .answer)))
+    let m : Located (now body) k (r .spot) (now l) i =
+    subst (λ (y : List ℕ). Located (now body) k (r .spot) y i) (sym (now-line body ending (r .spot .answer)))
     (located (now body) (now ending) k (r .spot) (d .spot) z) in
     let h = subst (λ (q : ℕ). i < length (barsFrom (now l) q)) (sym o) (some-from (now l) i (m .has)) in
     let t = nth-call NextCalls (Holds l) (now l) (λ (y : LineReader). y .at) (NextReads l) (next-reads-at l (m .short)) e run i c n h in
