@@ -226,14 +226,13 @@ pub extern "C" fn nophtris_bar<'a>(
 {
     let spot = endings::spot_of(body, ending, number);
     let answer = spot.answer;
-    let from = spot.from;
     let said = number_of(answer);
     if said != 0 {
         return said;
     }
     *line = line_number(answer);
-    *start = from;
-    *size = spot.to - from;
+    *start = spot.from;
+    *size = spot.to - spot.from;
     0
 }
 
