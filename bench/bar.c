@@ -72,10 +72,7 @@ static void row(const char *name, const char *piece) {
 
 int main(int argc, char **argv) {
   static char symbols[NOPHTRIS_LINE + 1];
-  FILE *file = argc > 1 ? fopen(argv[1], "r") : NULL;
-  if (file == NULL || fread(symbols, 1, NOPHTRIS_LINE, file) == 0) return 1;
-  for (char *c = symbols; *c; c++)
-    if (*c == '\n') *c = '|';
+  if (read_symbols(argc > 1 ? argv[1] : NULL, symbols, NOPHTRIS_LINE) == 0) return 1;
   if (argc > 2) {
     fill(symbols);
     fprintf(stderr, "lines %zx %zx\n", (size_t)lines, (size_t)(lines + 2));
