@@ -1,8 +1,8 @@
 #!/usr/bin/env python3
 """edit.py FROM TO: copies the Rust in FROM to TO and edits the copy, so that rustc alone can build it.
 
-Each edit is a pattern, what takes its place, and how often it must be found; the reasons stand in README.md, under the
-same names. An edit that is found more or less often stops everything with its name: the Rust is then not the one that
+Each edit is a pattern, what takes its place, and how often it must be found; the reasons stand in docs/DIFFERENCES.md,
+under the same names. An edit that is found more or less often stops everything with its name: the Rust is then not the one that
 these edits were written for, and nothing may be concluded from it.
 """
 import os
@@ -30,10 +30,10 @@ EDITS = [
      {'chord/interval.rs': 1, 'chord/quality.rs': 1}),
     ('enum_bitset: derives', r', EnumBitset(?=[,)])', '',
      {'chord/interval.rs': 2, 'chord/quality.rs': 1}),
+    ('sign: first byte', r'(?<=, )self\.current(?=, 1, tokens\),$)', 'self.current - c.len_utf8()',
+     {'parsing/lexer.rs': 11}),
     ('evaluate: stop after validate', r'(?<=\.validate\(\)\n        )\.build_chord\(\)', '.stop()',
      {'parsing/evaluator.rs': 1}),
-    ('kind 6: of a sign', r'(?<=InvalidExtension\()token\.pos \+ 1(?=\))', 'token.pos + 1 + tap::PAST_SIGN',
-     {'parsing/mod.rs': 1}),
     ('kind 3: priority', r'Exp::from_priority\(key\)(?=\.to_string\(\))', 'key',
      {'parsing/validator.rs': 1}),
     ('kind 10: interval numbers', r'(?<=", )(intervals\[[iab]\]\.unwrap\(\))', r'*\1 as u8',

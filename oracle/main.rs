@@ -28,7 +28,6 @@ use parsing::{
     ast::Ast,
     expression::Exp,
     parser_error::{ParserError, ParserErrors},
-    tap::PAST_SIGN,
     token::{Token, TokenType},
 };
 use raised::Places;
@@ -118,8 +117,7 @@ impl Listing {
     }
 }
 
-/// An error's four numbers: its kind, its values, zeros. Positions are mapped back; the kind 6 of a sign stays one past the
-/// position of the sign's token.
+/// An error's four numbers: its kind, its values, zeros. Positions are mapped back.
 fn error_numbers(error: &ParserError, places: &Places) -> [usize; 4] {
     let back = |position: &usize| places.back(*position);
     match error {
@@ -128,7 +126,6 @@ fn error_numbers(error: &ParserError, places: &Places) -> [usize; 4] {
         ParserError::DuplicateModifier(priority) => [3, decimal(priority), 0, 0],
         ParserError::InconsistentExtension(interval) => [4, *interval as usize, 0, 0],
         ParserError::DuplicateExtension(pos) => [5, back(pos), 0, 0],
-        ParserError::InvalidExtension(pos) if *pos > PAST_SIGN => [6, back(&(*pos - PAST_SIGN - 1)) + 1, 0, 0],
         ParserError::InvalidExtension(pos) => [6, back(pos), 0, 0],
         ParserError::WrongExpressionTarget(pos) => [7, back(pos), 0, 0],
         ParserError::UnexpectedModifier(pos) => [8, back(pos), 0, 0],

@@ -3,9 +3,6 @@
 use super::{Parser, ParserError, ParserErrors, ast::Ast, evaluator::Evaluator, token::Token};
 use crate::chord::Chord;
 
-/// An edit adds this to the position of the kind 6 of a sign before a wrong number, which is one past that of the sign's token.
-pub(crate) const PAST_SIGN: usize = 1 << 32;
-
 impl Parser {
     /// The lexer's list, before `pre_process`.
     pub(crate) fn scanned<'a>(&mut self, text: &'a str) -> Vec<Token<'a>> {

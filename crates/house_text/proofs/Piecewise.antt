@@ -38,7 +38,7 @@ after (b ∷ t) q = after t (q + 1)
 abbrev pub pieces : Set → SusKind → List Piece
 pieces n k =
     piece (n diminishedFifth && not (n diminishedSeventh)) (ascii ",b5") (Extension diminishedFifth) 7 (λ q. q + 1)
-    ∷ piece (n augmentedFifth) (ascii ",#5") (Extension augmentedFifth) 9 (λ q. q + 1 + 1)
+    ∷ piece (n augmentedFifth) (ascii ",#5") (Extension augmentedFifth) 9 (λ q. q + 1)
     ∷ piece (n minorSeventh) (ascii ",7") (Extension minorSeventh) 13 (λ q. q + 1)
     ∷ piece (isFlat2 k) (ascii ",susb2") (λ p. Sus minorSecond) 23 (λ q. 0)
     ∷ piece (isSecond k) (ascii ",sus2") (λ p. Sus majorSecond) 23 (λ q. 0)

@@ -91,7 +91,7 @@ module _ (text : List ℕ) (s : Scan) (R R′ : List Token) (F : Few text s) (l 
       ∙ ap₂ (λ f h. f ++ lex 0 h (s .at + 1) (drop (s .at + 1) text)) all (slice-empty (s .count) R)
       ∙ append-assoc (take (s .held) R) (slice (s .held) (s .count) R) (lex 0 [] (s .at + 1) (drop (s .at + 1) text))
       ∙ sym (before-step head.Space e)
-  step-whole (head.Sign k n) e o b E = at-end (token k (s .at + n) 1) n o b (E .one refl) ∙ sym (before-step (head.Sign k n) e)
+  step-whole (head.Sign k n) e o b E = at-end (token k (s .at) 1) n o b (E .one refl) ∙ sym (before-step (head.Sign k n) e)
   step-whole (head.Word k n) e o b E = at-end (token k (s .at) n) n o b (E .one refl) ∙ sym (before-step (head.Word k n) e)
   step-whole (head.Number k t n) e o b E =
       ap₂ (λ f h. f ++ lex 0 h (s .at + n) (drop (s .at + n) text)) (front-new (F .among) b (E .one refl)) (back (F .among) b (E .one refl))

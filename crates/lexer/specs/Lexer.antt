@@ -103,15 +103,13 @@ headBy utf8.End s = Word illegal 1
 unfoldable pub headOf : List ℕ → Head
 headOf s = headBy (charOf s) s
 
--- "A one-sign token carries the byte position after its sign."
-abbrev pub signPos : ℕ → ℕ → ℕ
-signPos p n = p + n
-
--- The tokens from a head at p on. `held` are the Illegal digits of the run so far: "Its Illegal digits come after all its numbers, last one
--- first." "A stray numeral is Illegal at its first byte, with length 1." `more k held` goes on after k bytes more.
+-- The tokens from a head at p on. "One-sign tokens will carry the sign's own first byte" (document 02 [6]; before it document 01 had "the
+-- byte position after its sign"), "and length 1; a word or number token carries its first byte." `held` are the Illegal digits of the run so
+-- far: "Its Illegal digits come after all its numbers, last one first." "A stray numeral is Illegal at its first byte, with length 1."
+-- `more k held` goes on after k bytes more.
 abbrev pub emit : Head → List Token → ℕ → (ℕ → List Token → List Token) → List Token
 emit Space held p more = held ++ more 0 []
-emit (Sign k n) held p more = held ++ (token k (signPos p n) 1 ∷ more (n - 1) [])
+emit (Sign k n) held p more = held ++ (token k p 1 ∷ more (n - 1) [])
 emit (Word k n) held p more = held ++ (token k p n ∷ more (n - 1) [])
 emit (Number k l n) held p more = token k p l ∷ more (n - 1) held
 emit (Digit n) held p more = more (n - 1) (token illegal p 1 ∷ held)

@@ -8,7 +8,7 @@ use lib.Dec.{eqb, ltb}
 use lib.ListN.{length, take, drop, getD}
 use lib.Seq.{slice}
 use Rattle.token.specs.Token.{Token, token, Ranged, Room}
-use Rattle.lexer.specs.Lexer.{illegal, lex, signPos, tokensOf}
+use Rattle.lexer.specs.Lexer.{illegal, lex, tokensOf}
 use Rattle.lexer.specs.Words.{Word, runEnd, word, words}
 use Rattle.lexer.specs.declared.Head.the-variants as head
 use Rattle.lexer.specs.declared.Head.{Head}
@@ -89,7 +89,7 @@ plan at k p n s = record { adds = true; place = at; kind = k; pos = p; len = n; 
 -- what a head adds: nothing; or a token at the end, after which no digit is held any more; or one before the held digits
 abbrev pub planOf : Head → Scan → Plan
 planOf head.Space s = record { adds = false; place = s .count; kind = 0; pos = 0; len = 0; next = scan (s .at + 1) (s .count) (s .count) }
-planOf (head.Sign k n) s = plan (s .count) k (signPos (s .at) n) 1 (scan (s .at + n) (s .count + 1) (s .count + 1))
+planOf (head.Sign k n) s = plan (s .count) k (s .at) 1 (scan (s .at + n) (s .count + 1) (s .count + 1))
 planOf (head.Word k n) s = plan (s .count) k (s .at) n (scan (s .at + n) (s .count + 1) (s .count + 1))
 planOf (head.Number k l n) s = plan (s .held) k (s .at) l (scan (s .at + n) (s .held + 1) (s .count + 1))
 planOf (head.Digit n) s = plan (s .held) illegal (s .at) 1 (scan (s .at + n) (s .held) (s .count + 1))

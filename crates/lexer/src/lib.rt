@@ -524,7 +524,7 @@ fn plan_for(h: Head, s: Scan) -> Plan
             len: 0,
             next: scan_at(at + 1, n, n),
         },
-        Head::Sign(k, b) => add_at(n, k, (at + b) as u16, 1, scan_at(at + b, n + 1, n + 1)),
+        Head::Sign(k, b) => add_at(n, k, p, 1, scan_at(at + b, n + 1, n + 1)),
         Head::Word(k, b) => add_at(n, k, p, b as u16, scan_at(at + b, n + 1, n + 1)),
         Head::Number(k, l, b) => add_at(held, k, p, l, scan_at(at + b, held + 1, n + 1)),
         Head::Digit(b) => add_at(held, ILLEGAL, p, 1, scan_at(at + b, held, n + 1)),

@@ -19,11 +19,11 @@ errors text = allNumbers (parseOf (preProcess (tokensOf text)) .errs)
 abbrev expressions : List ℕ → List Exp
 expressions text = parseOf (preProcess (tokensOf text)) .exps
 
--- "empty: kind 9", "`C)`: 15 at 2", "`C((`: 17 at 2, 16 at 3", "`C(/`: 14 at 3"
+-- "empty: kind 9"; "`C)` then gives 15 at 1, `C((` gives 17 at 1 and 16 at 2, and `C(/` gives 14 at 2" (document 02 [6])
 refused : (errors [] ≡ 9 ∷ 0 ∷ 0 ∷ 0 ∷ [])
-    × (errors (ascii "C)") ≡ 15 ∷ 2 ∷ 0 ∷ 0 ∷ [])
-    × (errors (ascii "C((") ≡ 17 ∷ 2 ∷ 0 ∷ 0 ∷ 16 ∷ 3 ∷ 0 ∷ 0 ∷ [])
-    × (errors (ascii "C(/") ≡ 14 ∷ 3 ∷ 0 ∷ 0 ∷ [])
+    × (errors (ascii "C)") ≡ 15 ∷ 1 ∷ 0 ∷ 0 ∷ [])
+    × (errors (ascii "C((") ≡ 17 ∷ 1 ∷ 0 ∷ 0 ∷ 16 ∷ 2 ∷ 0 ∷ 0 ∷ [])
+    × (errors (ascii "C(/") ≡ 14 ∷ 2 ∷ 0 ∷ 0 ∷ [])
 unfolding headOf digitOf isLetter lex signOf byEnds runEnd wordTo words concat count foldOn isMaj join lastSix walk typeOf bits charOf encode isScalar
 refused = (refl, refl, refl, refl)
 

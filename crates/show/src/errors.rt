@@ -79,18 +79,7 @@ fn has_place(kind: u16) -> bool {
     }
 }
 
-// The byte under which the caret stands. A sign's position is the byte after it; a slash and brackets are signs of one byte.
-fn place(kind: u16, pos: u16) -> usize {
-    let p = pos as usize;
-    if kind < 14 {
-        return p;
-    }
-    if p == 0 {
-        return 0;
-    }
-    p - 1
-}
-
+// An error without a place is one line; one with a place is two: the text, and a caret under the character that has the position's byte.
 fn put_error(text: &[u8], kind: u16, a: u16, b: u16, c: u16) {
     if !has_place(kind) {
         put(b"  ");
@@ -101,7 +90,7 @@ fn put_error(text: &[u8], kind: u16, a: u16, b: u16, c: u16) {
     put(b"  ");
     put_text(text);
     put(b"\n  ");
-    put_spaces(text, place(kind, a));
+    put_spaces(text, a as usize);
     put(b"^ ");
     put_placed(kind);
     put(b"\n");

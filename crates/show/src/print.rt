@@ -50,7 +50,7 @@ fn ends_before(text: &[u8], i: usize) -> bool {
 }
 
 // A space for each character that ends before the byte n: what is printed next stands under the character that has this byte, also where
-// it is not its first (the position of a wrong number behind a sign may lie inside a raised numeral).
+// it is not its first (the position of a wrong number behind a sign is one past the sign's first byte, which may lie inside the sign).
 pub(crate) fn put_spaces(text: &[u8], n: usize) {
     let mut i = 0;
     while i < text.len() {

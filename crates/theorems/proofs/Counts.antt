@@ -7,7 +7,7 @@ use native.Mathlib.Omega.{arith}
 use lib.Dec.{eqb}
 use lib.ListN.{length, length-append}
 use Rattle.folding.specs.Folding.{is, seven, dim, dim7, maj, maj7, isMaj, maj7With, concat, count, paired, join, taken, foldOn, fold7, preProcess}
-use Rattle.lexer.specs.Lexer.{headOf, emit, lex, endOf, illegal, signPos, tokensOf}
+use Rattle.lexer.specs.Lexer.{headOf, emit, lex, endOf, illegal, tokensOf}
 use Rattle.lexer.specs.declared.Head.the-variants as head
 use Rattle.lexer.specs.declared.Head.{Head}
 use Rattle.reader.specs.Reader.{tokensIn}
@@ -18,7 +18,7 @@ emit-few : (h : Head) (held : List Token) (p m : ℕ) (more : ℕ → List Token
     → ((k : ℕ) (g : List Token) → length (more k g) ≤ length g + m)
     → length (emit h held p more) ≤ length held + suc m
 emit-few head.Space held p m more f = omega (arith, length-append held (more 0 []), f 0 [])
-emit-few (head.Sign k n) held p m more f = omega (arith, length-append held (token k (signPos p n) 1 ∷ more (n - 1) []), f (n - 1) [])
+emit-few (head.Sign k n) held p m more f = omega (arith, length-append held (token k p 1 ∷ more (n - 1) []), f (n - 1) [])
 emit-few (head.Word k n) held p m more f = omega (arith, length-append held (token k p n ∷ more (n - 1) []), f (n - 1) [])
 emit-few (head.Number k l n) held p m more f = omega (arith, f (n - 1) held)
 emit-few (head.Digit n) held p m more f = omega (arith, f (n - 1) (token illegal p 1 ∷ held))

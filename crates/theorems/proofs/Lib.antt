@@ -16,4 +16,6 @@ pub mod RaisedCharacters
 pub mod RaisedRuns
 pub mod RaisedHeads
 pub mod Raised
+pub mod RaisedReads
+pub mod Signs
 pub mod Theorems

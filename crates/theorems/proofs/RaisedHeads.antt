@@ -1,26 +1,30 @@
 -- What a text and its plain form begin with: the same head, but for the bytes of a digit and of a number, and on both sides the bytes of
 -- as many characters. A word is that of the letter run, a number goes by the digits, any other character is its own plain form.
 -- Assumes nothing.
-use mathlib.Core.Bool.{Bool, true, false, cond}
+use mathlib.Core.Bool.{Bool, true, false, cond, true≢false}
 use mathlib.Core.List.{List, [], _∷_, _++_, map}
 use mathlib.Core.Path.{_≡_, refl, sym, ap, _∙_}
 use Prim.Native.Nat.{ℕ, suc, _+_, _*_, _-_, _≤_, _<_}
 use native.Mathlib.Omega.{arith}
-use lib.Dec.{T, eqb}
+use lib.Dec.{T, eqb, ltb}
 use lib.ListN.{length-append}
 use lib.Seq.{drop-append-seam}
-use borrow.Author.Tests.{eqb-true}
+use borrow.Author.Tests.{eqb-true, le-ltb}
 use mir.Facts.{and-yes}
 use Rattle.intervals.specs.Interval.{elem}
 use Rattle.lexer.proofs.Heads.{head-sized, letter-head, word-within}
 use Rattle.lexer.proofs.Runs.{run-within}
 use Rattle.lexer.specs.Lexer.{bytesIn, digitIn, digitOf, headBy, headOf, illegal, isDigit, numberBy, numberHead, oneDigit, signHead, signOf, sizeOf, twoDigits, wordHead}
-use Rattle.lexer.specs.Words.{isLetter, runEnd}
+use Rattle.lexer.specs.Words.{isLetter, runEnd, wordByEnds}
 use Rattle.lexer.specs.declared.Head.the-variants.{Space, Sign, Word, Number, Digit}
 use Rattle.lexer.specs.declared.Head.{Head}
-use Rattle.theorems.proofs.RaisedCharacters.{plain-digit, plain-is-digit, plain-no-letter, plain-other, plain-scalar, plain-scalars}
+use Rattle.theorems.proofs.RaisedCharacters.{letter-no-digit, plain-digit, plain-is-digit, plain-no-letter, plain-other, plain-scalar, plain-scalars}
 use Rattle.theorems.proofs.RaisedRuns.{bytes, first-bytes, letter-run, run-alike, run-bytes, word-alike}
 use Rattle.theorems.specs.Raised.{plainChar, width}
+use Rattle.positions.proofs.Pairs.{isModifier}
+use Rattle.note.specs.Note.{letterOf}
+use Rattle.token.specs.Token.{typeOf}
+use Rattle.token.specs.declared.TokenType.the-variants as type
 use Rattle.utf8.proofs.Laws.{charOf-encode}
 use Rattle.utf8.specs.Utf8.{isScalar, allScalar, charOf, encode, encodeAll}
 use Rattle.utf8.specs.declared.Found.the-variants as utf8
@@ -152,3 +156,45 @@ heads-alike c cs t = go (isLetter c) (isDigit c) refl refl (and-yes (isScalar c)
     go true b e d s = letter-alike c cs e
     go false true e d s = digit-alike c cs (s .0) e d (s .1)
     go false false e d s = other-alike c cs (s .0) e d
+
+-- what a head says of whether its text begins with a digit (d): a sign and a word begin with none; and a number is no sharp and no flat
+pub data Begun (d : Bool) : Head → Type 0 where
+  a-space : Begun d Space
+  a-sign : {k n : ℕ} → d ≡ false → Begun d (Sign k n)
+  a-word : {k n : ℕ} → d ≡ false → Begun d (Word k n)
+  a-number : {k l n : ℕ} → isModifier (typeOf k) ≡ false → Begun d (Number k l n)
+  a-digit : {n : ℕ} → Begun d (Digit n)
+
+begun-if : {d : Bool} {x y : Head} (b : Bool) → Begun d x → Begun d y → Begun d (cond b x y)
+begun-if true s t = s
+begun-if false s t = t
+
+number-no-modifier : (n : ℕ) → isModifier (typeOf (32 + n)) ≡ false
+unfolding typeOf
+number-no-modifier n = rw (le-ltb (32 + n) 32 (omega arith)) (go (ltb (32 + n) 64) (ltb (32 + n) 71))
+  where
+    go : (a b : Bool)
+        → isModifier (cond a (type.Extension (32 + n - 32)) (cond b (type.Note (letterOf (32 + n - 64))) type.Illegal)) ≡ false
+    go true b = refl
+    go false true = refl
+    go false false = refl
+
+pub head-begun : (c : ℕ) (cs : List ℕ) → T (allScalar (c ∷ cs)) → Begun (isDigit c) (headOf (encodeAll (c ∷ cs)))
+head-begun c cs t = go (isLetter c) (isDigit c) refl refl (and-yes (isScalar c) (allScalar cs) t .0)
+  where
+    s : List ℕ
+    s = encodeAll (c ∷ cs)
+
+    go : (a b : Bool) → isLetter c ≡ a → isDigit c ≡ b → T (isScalar c) → Begun b (headOf s)
+    go true true e d t = absurd (true≢false (sym d ∙ letter-no-digit c e))
+    go true false e d t =
+        rw (letter-head s (omega (arith, letter-run c (encodeAll cs) e)))
+        (begun-if (eqb (wordByEnds s .len) 0) (a-word refl) (a-word refl))
+    go false true e d t =
+        let x = digitIn (charOf (encodeAll cs)) in
+        rw (digit-begins c (encodeAll cs) t e d)
+        (begun-if (elem (10 * digitOf c + x) twoDigits) (a-number (number-no-modifier (10 * digitOf c + x)))
+        (begun-if (elem (digitOf c) oneDigit) (a-number (number-no-modifier (digitOf c))) a-digit))
+    go false false e d t =
+        rw (other-begins c (encodeAll cs) t e d)
+        (begun-if (eqb c 32) a-space (begun-if (eqb (signOf c) 0) (a-word refl) (a-sign refl)))

@@ -5,7 +5,7 @@ use mathlib.Core.List.{List, [], _∷_, _++_}
 use mathlib.Core.Logic.{_↔_, inl, inr}
 use mathlib.Core.Option.{some}
 use mathlib.Core.Path.{_≡_, refl, sym, ap, subst, _∙_}
-use Prim.Native.Nat.{ℕ, _+_, _*_, _≤_, _<_}
+use Prim.Native.Nat.{ℕ, _*_, _≤_, _<_}
 use native.Mathlib.Omega.{arith}
 use lib.Dec.{T, eqb, ltb, ltb→lt}
 use lib.ListN.{List·getD-append, drop, getD, length, length-append, length-drop}
@@ -20,7 +20,7 @@ use Rattle.expression.specs.declared.parser_error.ParserError.{ParserError}
 use Rattle.parser.proofs.Laws.{root-note}
 use Rattle.parser.specs.Parser.{parseOf}
 use Rattle.reader.proofs.Answers.{Asked, Way, accept, asked-first, blank, bytes, enough, long, long-list, parse, short, validation, way}
-use Rattle.reader.specs.Reader.{IsAccepted, ReadOutcome, countOf, isBlank, numberOf, readOf, tokensIn}
+use Rattle.reader.specs.Reader.{IsAccepted, ReadOutcome, answerTo, countOf, isBlank, numberOf, readOf, tokensIn}
 use Rattle.reader.specs.State.{Read}
 use Rattle.reader.specs.declared.Answer.the-variants.{Accepted, LongText, NotUtf8, Parse, ShortList, Validation}
 use Rattle.reader.specs.declared.Answer.{Answer}
@@ -156,6 +156,18 @@ module _ (text : List ℕ) where
   nothing-found (validation k u b p v) h = absurd (omega (arith, h))
   nothing-found (accept k u b p v) h = (refl, refl)
 
+  -- four numbers for each error that is counted
+  pub errors-four : length (errorsOf text) ≡ 4 * answerTo text .count
+  errors-four = go (way text)
+    where
+      go : {o : ReadOutcome} → Way text o → length (o .errs) ≡ 4 * o .count
+      go (long k) = refl
+      go (bytes k u) = refl
+      go (blank k u b) = refl
+      go (parse {x} {e} k u b p) = all-length (x ∷ e)
+      go (validation {x} {e} k u b p v) = all-length (x ∷ e)
+      go (accept k u b p v) = refl
+
   -- a kind that occurs
   kind-of : (k : ℕ) → T (occurs k) → (1 ≤ k) × (k < 18) × (k ≡ 13 → ⊥)
   kind-of k t =
@@ -172,7 +184,7 @@ module _ (text : List ℕ) where
   listed es es′ count (enough k) h c l =
       let e = errorsOf text in
       let f = found-errors (way text) h in
-      let four : length e ≡ 4 * count = ap length (f .4) ∙ all-length (f .0) ∙ ap (λ (n : ℕ). 4 * n) (sym (c ∙ f .3)) in
+      let four : length e ≡ 4 * count = errors-four ∙ ap (λ (n : ℕ). 4 * n) (sym c) in
       let now : es′ ≡ e ++ drop (4 * count) es = l ∙ ap (λ (j : ℕ). e ++ drop j es) four in
       let size = ap length l in
       record {
@@ -331,6 +343,12 @@ module _ (text es es′ : List ℕ) (c c′ : ℕ) (cs cs′ : List ℕ) (r : �
       let z : o .number ≡ 0 = sym (g .number) ∙ e in
       let x = accepted-four text (length es) (asked-first (length es) text) z in
       (x .1, g .chord ∙ ap (λ (n : ℕ). cond (eqb n 0) (chordBytes (o .four)) cs) z ∙ ap chordBytes (x .0))
+
+  -- with 4 and 5 the errors are counted
+  pub c-counted : 1028 ≤ length es → 4 ≤ r → c′ ≡ answerTo text .count
+  c-counted k h =
+      let a = asked-first (length es) text in
+      g .count ∙ counted-first text (length es) a c (subst (λ (n : ℕ). 4 ≤ n) (g .number) h) ∙ ap (λ o. o .count) (long-list (length es) text k)
 
   c-read-filled : (r ≡ 0 → ⊥) → cs′ ≡ cs
   c-read-filled n =

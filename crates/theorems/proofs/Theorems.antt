@@ -3,8 +3,10 @@
 use Rattle.theorems.proofs.CEndings.{c-bar-by-number, c-bar-is-step, c-bar-untouched, c-bars-in-order, c-each-once}
 use Rattle.theorems.proofs.CSongs.{c-all-bars, c-always-eight, c-bars-from, c-handed-out, c-step-turns}
 use Rattle.theorems.proofs.Endings.{bar-is-next, bar-is-step, bars-in-order, each-once, own-bytes, spot-by-number, spots-in-order}
-use Rattle.theorems.proofs.Raised.{raised-tokens}
+use Rattle.theorems.proofs.Raised.{raised-answer, raised-tokens}
+use Rattle.theorems.proofs.RaisedReads.{c-raised-read, raised-read}
 use Rattle.theorems.proofs.Readings.{c-read-errors, c-read-numbered, c-read-record, c-read-untouched, read-apart, read-errors, read-numbered, read-record, read-untouched}
+use Rattle.theorems.proofs.Signs.{before-as-said, positions-alone, signs-alone}
 use Rattle.theorems.proofs.Silent.{blank-texts, c-read-blank, c-silent-bar, c-write-nothing, c-write-rootless, empty-spelling, read-blank, rootless, silent-bar, write-nothing, write-rootless}
 use Rattle.theorems.proofs.Songs.{all-bars, always-eight, bars-from, handed-out, next-all-bars, next-always-eight, next-bars-from, next-handed-out, next-turns, step-turns}
 use Rattle.theorems.proofs.Specimens.{read-as-said}
@@ -58,6 +60,9 @@ theorems =
       cHandedOut = c-handed-out;
       cAlwaysEight = c-always-eight;
       raisedTokens = raised-tokens;
+      raisedAnswer = raised-answer;
+      raisedRead = raised-read;
+      cRaisedRead = c-raised-read;
       blankTexts = blank-texts;
       rootless = rootless;
       emptySpelling = empty-spelling;
@@ -81,4 +86,7 @@ theorems =
       cEachOnce = c-each-once;
       cBarsInOrder = c-bars-in-order;
       cBarIsStep = c-bar-is-step;
+      positionsAlone = positions-alone;
+      beforeAsSaid = before-as-said;
+      signsAlone = signs-alone;
     }

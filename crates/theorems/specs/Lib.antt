@@ -7,6 +7,7 @@ pub mod CTrips
 pub mod Song
 pub mod CSong
 pub mod Raised
+pub mod Signs
 pub mod Silent
 pub mod Endings
 pub mod CEndings

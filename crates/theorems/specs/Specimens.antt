@@ -1,5 +1,5 @@
--- The card specimens of document 01 that have a star, of which the empty one is as document 02 [4] has it, and texts of document 02 [3] and
--- [4]: one table of what is read and spelled, and one statement for all of it.
+-- The card specimens of document 01 that have a star, of which the empty one is as document 02 [4] and `C)`, `C((` and `C(/` are as [6] has
+-- them, and texts of document 02 [3] and [4]: one table of what is read and spelled, and one statement for all of it.
 use mathlib.Core.Bool.{cond}
 use mathlib.Core.List.{List, [], _∷_, _++_, map}
 use mathlib.Core.Path.{_≡_}
@@ -73,9 +73,9 @@ specimens =
     ∷ card (ascii "C7dim") 0 0 (0 ∷ 3 ∷ 7 ∷ 12 ∷ [])
     ∷ spelled (ascii "C(omit3,)5") 0 0 (0 ∷ []) (ascii "C,omit3,omit5")
     ∷ spelled [] 0 21 [] []
-    ∷ card (ascii "C)") 4 21 (15 ∷ 2 ∷ 0 ∷ 0 ∷ [])
-    ∷ card (ascii "C((") 4 21 (17 ∷ 2 ∷ 0 ∷ 0 ∷ 16 ∷ 3 ∷ 0 ∷ 0 ∷ [])
-    ∷ card (ascii "C(/") 4 21 (14 ∷ 3 ∷ 0 ∷ 0 ∷ [])
+    ∷ card (ascii "C)") 4 21 (15 ∷ 1 ∷ 0 ∷ 0 ∷ [])
+    ∷ card (ascii "C((") 4 21 (17 ∷ 1 ∷ 0 ∷ 0 ∷ 16 ∷ 2 ∷ 0 ∷ 0 ∷ [])
+    ∷ card (ascii "C(/") 4 21 (14 ∷ 2 ∷ 0 ∷ 0 ∷ [])
     ∷ card (ascii "Cadd7") 5 21 (7 ∷ 4 ∷ 0 ∷ 0 ∷ [])
     ∷ card (ascii "C7Maj7") 5 21 (10 ∷ 13 ∷ 14 ∷ 0 ∷ [])
     ∷ card cSquared 5 21 (6 ∷ 1 ∷ 0 ∷ 0 ∷ [])

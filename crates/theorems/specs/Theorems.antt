@@ -7,8 +7,9 @@ use Rattle.theorems.specs.CSong as C-song
 use Rattle.theorems.specs.CTrips as C-trips
 use Rattle.theorems.specs.CWriting as C-writing
 use Rattle.theorems.specs.Endings as endings
-use Rattle.theorems.specs.Raised.{RaisedTokens}
+use Rattle.theorems.specs.Raised as raised
 use Rattle.theorems.specs.Reading as reading
+use Rattle.theorems.specs.Signs as signs
 use Rattle.theorems.specs.Silent as silent
 use Rattle.theorems.specs.Song as song
 use Rattle.theorems.specs.Specimens.{ReadAsSaid}
@@ -62,8 +63,11 @@ pub record Theorems : Type 0 where
   pub cBarsFrom : C-song.BarsFrom
   pub cHandedOut : C-song.HandedOut
   pub cAlwaysEight : C-song.AlwaysEight
-  -- raised numerals: the tokens of the same text in plain digits, positions mapped back
-  pub raisedTokens : RaisedTokens
+  -- raised numerals: the tokens and the answer of the same text in plain digits, positions mapped back
+  pub raisedTokens : raised.RaisedTokens
+  pub raisedAnswer : raised.RaisedAnswer
+  pub raisedRead : raised.RaisedRead
+  pub cRaisedRead : raised.CRaisedRead
   -- silent bars: blank texts and the record of no chord
   pub blankTexts : silent.BlankTexts
   pub rootless : silent.Rootless
@@ -89,3 +93,7 @@ pub record Theorems : Type 0 where
   pub cEachOnce : C-endings.EachOnce
   pub cBarsInOrder : C-endings.BarsInOrder
   pub cBarIsStep : C-endings.BarIsStep
+  -- positions on the sign: nothing else of an answer goes by positions, so that the rule changes them alone
+  pub positionsAlone : signs.PositionsAlone
+  pub beforeAsSaid : signs.BeforeAsSaid
+  pub signsAlone : signs.SignsAlone

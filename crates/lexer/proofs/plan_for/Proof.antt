@@ -23,12 +23,6 @@ scan-at-requires c κs = search needs
 enum-known-h : tie.Need-enum-known-h
 enum-known-h c = search needs
 
-add-add-at : tie.Need-add-add-at
-add-add-at c = let e = ap sizeOf (c .before .h .given .1) in omega (arith, e, c .before .before .before .pre .0)
-
-cast-add-at : tie.Need-cast-add-at
-cast-add-at c = let e = ap sizeOf (c .before .h .given .1) in omega (arith, e, c .before .before .before .pre .0)
-
 add-scan-at-2 : tie.Need-add-scan-at-2
 add-scan-at-2 c = let e = ap sizeOf (c .before .h .given .1) in omega (arith, e, c .before .before .before .pre .0)
 
@@ -47,8 +41,8 @@ add-at-requires c κs = search needs
 enum-known-h-2 : tie.Need-enum-known-h-2
 enum-known-h-2 c = search needs
 
-cast-add-at-2 : tie.Need-cast-add-at-2
-cast-add-at-2 c = let e = ap sizeOf (c .before .h2 .given .1) in omega (arith, e, c .before .before .before .pre .0)
+cast-add-at : tie.Need-cast-add-at
+cast-add-at c = let e = ap sizeOf (c .before .h2 .given .1) in omega (arith, e, c .before .before .before .pre .0)
 
 add-scan-at-5 : tie.Need-add-scan-at-5
 add-scan-at-5 c = let e = ap sizeOf (c .before .h2 .given .1) in omega (arith, e, c .before .before .before .pre .0)
@@ -124,15 +118,13 @@ plan-for-spec =
     add-scan-at
     scan-at-requires
     enum-known-h
-    add-add-at
-    cast-add-at
     add-scan-at-2
     add-scan-at-3
     add-scan-at-4
     scan-at-requires-2
     add-at-requires
     enum-known-h-2
-    cast-add-at-2
+    cast-add-at
     add-scan-at-5
     add-scan-at-6
     add-scan-at-7
