@@ -100,6 +100,15 @@ static int is_silent(const uint8_t *c) {
   return c[0] == 255 && c[1] == 0 && c[2] == 255 && c[3] == 0;
 }
 
+/* Is an error one that can occur in a text, with its position inside the text, and on the sign where it is built from a slash or a bracket? */
+static void check_error(const uint16_t *error, const uint8_t *text, size_t n) {
+  uint16_t kind = error[0], position = error[1];
+  if (kind < 1 || kind > 17 || kind == 13) fault("a kind that does not occur");
+  if (kind == 3 || kind == 4 || kind == 9 || kind == 10) return; /* these carry no position */
+  if (position >= n) fault("a position outside the text");
+  if (kind >= 14 && text[position] != "/)(("[kind - 14]) fault("a position that is not on the sign");
+}
+
 static unsigned long reads[8], writes[8], silent_reads, silent_writes;
 static nophtris_chord last; /* the last record that was read */
 
@@ -131,9 +140,9 @@ static void read_text(const uint8_t *bytes, size_t n, size_t room) {
     if (count == 0 || count > 257) fault("a count of errors that cannot be");
     kept(&list, 8 * (size_t)count, "the list was written behind the errors");
     for (unsigned i = 0; i < count; i++) {
-      uint16_t kind;
-      memcpy(&kind, list.now + GUARD + 8 * i, 2);
-      if (kind < 1 || kind > 17 || kind == 13) fault("a kind that does not occur");
+      uint16_t error[4];
+      memcpy(error, list.now + GUARD + 8 * i, sizeof error);
+      check_error(error, bytes, n);
     }
   }
   if (r == 0) memcpy(&last, record.now + GUARD, sizeof last);

@@ -33,7 +33,7 @@ extern "C" {
 
 /* The first number grows when a function or the struct changes its form, the second with a new function and with any other change of an answer. */
 #define NOPHTRIS_VERSION_MAJOR 1
-#define NOPHTRIS_VERSION_MINOR 4
+#define NOPHTRIS_VERSION_MINOR 5
 
 /* The answers. */
 #define NOPHTRIS_ACCEPTED 0     /* read: the struct is filled; written: the spelling stands in the buffer; a bar: its place is written */
@@ -56,15 +56,16 @@ extern "C" {
 #define NOPHTRIS_NONE 255       /* no root, no bass */
 #define NOPHTRIS_INTERVALS 23
 
-/* An error is four numbers: its kind, its values, and zeros. A position is a byte offset in the text, from 0. Of a sign (# / ( ) and the like) it is that
- * of the byte after the sign, so that it may equal the text's length; of a word or a number it is that of its first byte. */
+/* An error is four numbers: its kind, its values, and zeros. A position is a byte offset in the text, from 0: the first byte of the sign, the
+ * word, the number or the character that the error is about, so that an editor can underline what stands there. One position may lie
+ * elsewhere, that of a sharp or flat before a wrong number (kind 6): it is one more than the sign's first byte, which is inside the sign
+ * where that has three bytes (U+266F, U+266D). Up to version 1.4 the position of a sign (# / ( ) and the like) was the byte after it. */
 #define NOPHTRIS_ILLEGAL_TOKEN 1                      /* position */
 #define NOPHTRIS_UNEXPECTED_NOTE 2                    /* position */
 #define NOPHTRIS_DUPLICATE_MODIFIER 3                 /* what is repeated: power 0, alt 1, bass 2, minor 3, dim7 4, dim 5, half dim 6, sus 7, maj 8, Maj7 9, aug 12 */
 #define NOPHTRIS_INCONSISTENT_EXTENSION 4             /* interval */
 #define NOPHTRIS_DUPLICATE_EXTENSION 5                /* position */
-#define NOPHTRIS_INVALID_EXTENSION 6                  /* position; of a sign before a wrong number one more than the sign's own (inside the
-                                                         number where that is raised) */
+#define NOPHTRIS_INVALID_EXTENSION 6                  /* position; of a sharp or flat before a wrong number one more than its first byte */
 #define NOPHTRIS_WRONG_EXPRESSION_TARGET 7            /* position */
 #define NOPHTRIS_UNEXPECTED_MODIFIER 8                /* position */
 #define NOPHTRIS_MISSING_ROOT_NOTE 9                  /* nothing */
@@ -105,7 +106,8 @@ typedef char nophtris_chord_is_51_bytes[sizeof(nophtris_chord) == 51 ? 1 : -1];
 #endif
 
 /* Reads a text of any bytes and any length. Since version 1.2 the raised numerals U+00B9, U+00B2, U+00B3, U+2070 and U+2074 to U+2079
- * count as their digits; since version 1.3 a text that is empty or spaces only is accepted as no chord (it got 4 before).
+ * count as their digits; since version 1.3 a text that is empty or spaces only is accepted as no chord (it got 4 before); since version 1.5
+ * positions are on the sign (above).
  * The questions are asked in this order:
  *   1  NOPHTRIS_SHORT_LIST   the error list holds fewer than 1,028 numbers;
  *   2  NOPHTRIS_LONG_TEXT    the text has more than 256 bytes (a raised numeral has two or three);
