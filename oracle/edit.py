@@ -1,5 +1,6 @@
 #!/usr/bin/env python3
-"""edit.py FROM TO: copies the Rust in FROM to TO and edits the copy, so that rustc alone can build it.
+"""edit.py FROM TO [LEFT_OUT]: copies the Rust in FROM to TO and edits the copy, so that rustc alone can build it. The edit with the
+name LEFT_OUT is not made.
 
 Each edit is a pattern, what takes its place, and how often it must be found; the reasons stand in docs/DIFFERENCES.md,
 under the same names. An edit that is found more or less often stops everything with its name: the Rust is then not the one that
@@ -76,14 +77,18 @@ def replace(folder, path, name, pattern, new, expected):
 
 
 def main():
-    if len(sys.argv) != 3:
-        stop('usage: edit.py FROM TO')
-    source, copy = sys.argv[1:]
+    if len(sys.argv) not in (3, 4):
+        stop('usage: edit.py FROM TO [LEFT_OUT]')
+    source, copy, *left_out = sys.argv[1:]
     # The Rust may be read-only; the copy must not be.
     shutil.copytree(source, copy, copy_function=shutil.copyfile)
     for base, _, _ in os.walk(copy):
         os.chmod(base, 0o755)
+    if not set(left_out) <= {edit[0] for edit in EDITS}:
+        stop(f'there is no edit "{left_out[0]}"')
     for name, pattern, new, files in EDITS:
+        if name in left_out:
+            continue
         for path, expected in files.items():
             replace(copy, path, name, pattern, new, expected)
     for path, line in ADDED:

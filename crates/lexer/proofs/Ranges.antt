@@ -21,9 +21,9 @@ module _ (q l : ℕ) where
       → Ranged q l held → ((k : ℕ) (g : List Token) → Ranged q l g → Ranged q l (more k g)) → Ranged q l (emit h held p more)
   emit-ranged head.Space s held p more z b w r f = ranged-append q l held (more 0 []) r (f 0 [] tt)
   emit-ranged (head.Sign k n) s held p more z b w r f =
-      ranged-append q l held (token k p 1 ∷ more (n - 1) []) r (omega arith, omega (arith, z .some, z .within), f (n - 1) [] tt)
+      ranged-append q l held _ r (omega (arith, z .within), omega (arith, z .some, z .within), f (n - 1) [] tt)
   emit-ranged (head.Word k n) s held p more z b w r f =
-      ranged-append q l held (token k p n ∷ more (n - 1) []) r (omega arith, omega (arith, z .within), f (n - 1) [] tt)
+      ranged-append q l held _ r (omega (arith, z .within), omega (arith, z .within), f (n - 1) [] tt)
   emit-ranged (head.Number k t n) s held p more z b w r f = (omega arith, omega (arith, z .short, z .within), f (n - 1) held r)
   emit-ranged (head.Digit n) s held p more z b w r f = f (n - 1) (token 21 p 1 ∷ held) (omega arith, omega (arith, z .short, z .within), r)
 

@@ -1,5 +1,5 @@
 -- Two lists whose elements are related one by one, and tokens that are the same but for their positions: f of the one's position is g of
--- the other's. What can be said of such tokens, expressions and errors for all f and g is said here and in Folds, Steps and Parses.
+-- the other's. What is said of such tokens in Folds, Steps, Parses and Answers is said for all f and g.
 -- Assumes nothing.
 use mathlib.Core.Bool.{Bool, true, false, cond}
 use mathlib.Core.List.{List, [], _∷_, _++_}
