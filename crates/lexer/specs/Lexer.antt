@@ -103,10 +103,10 @@ headBy utf8.End s = Word illegal 1
 unfoldable pub headOf : List ℕ → Head
 headOf s = headBy (charOf s) s
 
--- The tokens from a head at p on. "One-sign tokens will carry the sign's own first byte" (document 02 [6]; before it document 01 had "the
--- byte position after its sign"), "and length 1; a word or number token carries its first byte." `held` are the Illegal digits of the run so
--- far: "Its Illegal digits come after all its numbers, last one first." "A stray numeral is Illegal at its first byte, with length 1."
--- `more k held` goes on after k bytes more.
+-- The tokens from a head at p on. "One-sign tokens will carry the sign's own first byte" (document 02 [6], where document 01 has "the byte
+-- position after its sign") "and length 1; a word or number token carries its first byte." `held` are the Illegal digits of the run so far:
+-- "Its Illegal digits come after all its numbers, last one first." "A stray numeral is Illegal at its first byte, with length 1." `more k
+-- held` goes on after k bytes more.
 abbrev pub emit : Head → List Token → ℕ → (ℕ → List Token → List Token) → List Token
 emit Space held p more = held ++ more 0 []
 emit (Sign k n) held p more = held ++ (token k p 1 ∷ more (n - 1) [])

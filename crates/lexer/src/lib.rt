@@ -505,8 +505,8 @@ fn add_at(place: usize, kind: u8, pos: u16, len: u16, next: Scan) -> Plan
     }
 }
 
-// What a head adds to the tokens: a sign or a word comes last, after which no digit is held; a number or a digit of none comes before the
-// held digits.
+// What a head adds to the tokens, at its first byte: a sign or a word comes last, after which no digit is held; a number or a digit of none
+// comes before the held digits.
 fn plan_for(h: Head, s: Scan) -> Plan
     requires { ⌜ (s .at + sizeOf h ≤ 256) × (s .held ≤ s .count) × (s .count ≤ 256) ⌝ }
     ensures { λ r. ⌜ r ≡ planOf h s ⌝ }
