@@ -100,7 +100,7 @@ static int is_silent(const uint8_t *c) {
   return c[0] == 255 && c[1] == 0 && c[2] == 255 && c[3] == 0;
 }
 
-/* Is an error one that can occur in a text, with its position inside the text, and on the sign where it is built from a slash or a bracket? */
+/* An error is of a kind that occurs; its position is inside the text, and on the sign where it is built from a slash or a bracket. */
 static void check_error(const uint16_t *error, const uint8_t *text, size_t n) {
   uint16_t kind = error[0], position = error[1];
   if (kind < 1 || kind > 17 || kind == 13) fault("a kind that does not occur");

@@ -56,8 +56,8 @@ extern "C" {
 #define NOPHTRIS_NONE 255       /* no root, no bass */
 #define NOPHTRIS_INTERVALS 23
 
-/* An error is four numbers: its kind, its values, and zeros. A position is a byte offset in the text, from 0: the first byte of the sign, the
- * word, the number or the character that the error is about, so that an editor can underline what stands there. One position may lie
+/* An error is four numbers: its kind, its values, and zeros. A position is a byte offset in the text, from 0: the first byte of the sign,
+ * the word, the number or the character that the error is about, so that an editor can underline what stands there. One position may lie
  * elsewhere, that of a sharp or flat before a wrong number (kind 6): it is one more than the sign's first byte, which is inside the sign
  * where that has three bytes (U+266F, U+266D). Up to version 1.4 the position of a sign (# / ( ) and the like) was the byte after it. */
 #define NOPHTRIS_ILLEGAL_TOKEN 1                      /* position */
