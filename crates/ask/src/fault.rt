@@ -1,5 +1,5 @@
 // Why a line is no question.
-#[derive(Drop)]
+#[derive(Clone, Copy)]
 pub(crate) enum Fault {
     Nothing,
     NoQuestion,

@@ -5,6 +5,8 @@
 // ending is the rest. `midi BASE ROOM RECORD` goes from the keys that sound to those of a record over base key BASE, with a lent output of
 // ROOM bytes, and `midi silence` begins again in silence; the keys sound on from line to line. A line that is no question is answered `?`
 // and why. What waits is written where a block of input ends, so that a caller who waits for an answer gets it.
+#![tactic(auto)]
+
 ghost use Rattle.std.specs.Prelude.{◌≤◌};
 ghost use Rattle.io.specs.Counts.{IsPrefixLen};
 

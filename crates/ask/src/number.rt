@@ -4,7 +4,7 @@ ghost use Rattle.std.specs.Prelude.{◌≤◌, length};
 use crate::fault::Fault;
 
 // A number, the place behind it, and what is wrong with it. One that is too large is the largest.
-#[derive(Drop)]
+#[derive(Clone, Copy)]
 pub(crate) struct Number {
     pub(crate) value: u64,
     pub(crate) at: usize,
@@ -12,7 +12,7 @@ pub(crate) struct Number {
 }
 
 // A number and whether it is whole, or too large.
-#[derive(Drop)]
+#[derive(Clone, Copy)]
 struct Value {
     n: u64,
     fits: bool,

@@ -7,7 +7,7 @@ use intervals::{IntervalList, IntervalSet};
 use note::{Note, NoteLiteral, OptionalNote, RootModifier};
 
 // A record, whether the numbers are one, and what is wrong with the line.
-#[derive(Drop)]
+#[derive(Clone, Copy)]
 pub(crate) struct Record {
     pub(crate) chord: Chord,
     pub(crate) is_record: bool,
@@ -15,7 +15,7 @@ pub(crate) struct Record {
 }
 
 // The members of N so far, whether they are a set of intervals, the place behind them, and what is wrong with them.
-#[derive(Drop)]
+#[derive(Clone, Copy)]
 struct Named {
     set: IntervalSet,
     is_set: bool,
@@ -24,7 +24,7 @@ struct Named {
 }
 
 // The numbers of the display list so far, as above.
-#[derive(Drop)]
+#[derive(Clone, Copy)]
 struct Displayed {
     list: IntervalList,
     is_list: bool,

@@ -6,7 +6,7 @@ use crate::record::Record;
 use keys::Keys;
 
 // The bytes of the output that are used behind an answer, and the keys that sound then.
-#[derive(Drop)]
+#[derive(Clone, Copy)]
 pub(crate) struct Said {
     pub(crate) used: usize,
     pub(crate) keys: Keys,

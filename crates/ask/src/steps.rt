@@ -9,7 +9,7 @@ use song::Step;
 const MOST_STEPS: u64 = 4098;
 
 // The bytes of the output that are used behind a step, and the new position.
-#[derive(Drop)]
+#[derive(Clone, Copy)]
 pub(crate) struct Printed {
     pub(crate) used: usize,
     pub(crate) at: usize,

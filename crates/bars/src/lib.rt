@@ -1,4 +1,6 @@
 // The bars of a song line: where the bar at a position lies, and the part of the line that it is.
+#![tactic(auto)]
+
 ghost use Rattle.std.specs.Prelude.{◌≡◌, ◌≤◌, length};
 ghost use Rattle.bars.specs.Bars.{bar_end, place_at, stayed};
 ghost use Rattle.bars.specs.State.{Part};
@@ -8,7 +10,7 @@ pub const STROKE: u8 = b'|';
 pub const LONGEST_LINE: usize = 4096;
 
 // What a step at a position finds: a line that is too long (8), the end, or a bar.
-#[derive(Drop)]
+#[derive(Clone, Copy)]
 pub enum Found {
     TooLong,
     End,
@@ -16,7 +18,7 @@ pub enum Found {
 }
 
 // What a step finds, where the bar lies (from its first byte to the one behind its last), and where the reader goes.
-#[derive(Drop)]
+#[derive(Clone, Copy)]
 pub struct Place {
     pub found: Found,
     pub from: usize,

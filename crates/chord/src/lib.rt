@@ -1,4 +1,6 @@
 // The chord record.
+#![tactic(auto)]
+
 ghost use Rattle.std.specs.Prelude.{◌↔◌, ◌≡◌, true};
 ghost use Rattle.chord.specs.Chord.{four_of, no_chord, record_of};
 
@@ -9,7 +11,7 @@ use note::OptionalNote;
 use same::{same_optional, same_set};
 
 // Root, slash bass or none, normalized set and display list. Every value is a record that a caller may hand over, also one without a root.
-#[derive(Drop)]
+#[derive(Clone, Copy)]
 pub struct Chord {
     pub root: OptionalNote,
     pub bass: OptionalNote,

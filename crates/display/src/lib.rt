@@ -1,4 +1,6 @@
 // The display list: the members in the order of the semitones of what they are shown as.
+#![tactic(auto)]
+
 ghost use Rattle.std.specs.Prelude.{◌≡◌, ◌+◌, ◌<◌, get_or};
 ghost use Rattle.intervals.specs.Stored.{members, listed, list_of};
 ghost use Rattle.display.specs.Display.{shown, order, display_of};

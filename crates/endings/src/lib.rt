@@ -1,4 +1,6 @@
 // Second endings: a bar of a body and an ending by its number. Bars number from 0 through the body and then on through the ending.
+#![tactic(auto)]
+
 ghost use Rattle.std.specs.Prelude.{◌≡◌, ◌≤◌, length};
 ghost use Rattle.bars.specs.Bars.{longest_line};
 ghost use Rattle.bars.specs.State.{Part};
@@ -8,7 +10,7 @@ ghost use Rattle.endings.specs.State.{BarAt, Fits, NumberedBy, line_of, spot_fro
 use bars::{LONGEST_LINE, STROKE};
 
 // What a bar number is answered with: a line that is too long (8), no such bar (9), or a bar of the body or of the ending.
-#[derive(Drop)]
+#[derive(Clone, Copy)]
 pub enum Answer {
     TooLong,
     NoBar,
@@ -18,7 +20,7 @@ pub enum Answer {
 
 // The answer to a bar number, and where the bar lies in the line that has it, from its first byte to the one behind its last. Without a
 // bar that is 0 to 0.
-#[derive(Drop)]
+#[derive(Clone, Copy)]
 pub struct Spot {
     pub answer: Answer,
     pub from: usize,
@@ -26,14 +28,14 @@ pub struct Spot {
 }
 
 // A spot, and the bar that lies there as a part of its line.
-#[derive(Drop)]
+#[derive(Clone, Copy)]
 pub struct NumberedBar<'a> {
     pub spot: Spot,
     pub bar: &'a [u8],
 }
 
 // Where a bar of a line starts; or, where the line has too few, its number counted from the bar behind the line's last.
-#[derive(Drop)]
+#[derive(Clone, Copy)]
 enum Start {
     At(usize),
     Beyond(usize),

@@ -10,7 +10,7 @@ use intervals::{
     PERFECT_FIFTH,
 };
 
-#[derive(Drop)]
+#[derive(Clone, Copy)]
 pub enum BaseForm {
     Major,
     Minor,

@@ -17,7 +17,7 @@ use intervals::{IntervalList, IntervalSet, MAJOR_THIRD, PERFECT_FIFTH, UNISON};
 use note::OptionalNote;
 
 // What the expressions say before the stages.
-#[derive(Drop)]
+#[derive(Clone, Copy)]
 pub struct Descriptor {
     pub set: IntervalSet,
     pub form: BaseForm,
@@ -28,7 +28,7 @@ pub struct Descriptor {
 }
 
 // Which of the three walks over the expressions.
-#[derive(Drop)]
+#[derive(Clone, Copy)]
 enum Pass {
     Alterations,
     Omits,
@@ -36,7 +36,7 @@ enum Pass {
 }
 
 // The slash bass, the normalized set and the display list.
-#[derive(Drop)]
+#[derive(Clone, Copy)]
 pub struct Evaluated {
     pub bass: OptionalNote,
     pub set: IntervalSet,

@@ -5,7 +5,7 @@ ghost use Rattle.expression.specs.Expression.{packed, exp_number, exp_by, exp_of
 use note::Note;
 
 // An interval is its number; the second number of Extension, Add and Omit is a position.
-#[derive(Drop)]
+#[derive(Clone, Copy)]
 pub enum Exp {
     Power,
     Bass,

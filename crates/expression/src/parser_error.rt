@@ -3,7 +3,7 @@ ghost use Rattle.std.specs.Prelude.{◌≡◌, ◌++◌, ◌+◌, ◌*◌, ◌�
 ghost use Rattle.expression.specs.ParserError.{numbers_of, row4, row_of};
 
 // A position is a byte offset. Kind 3 carries the `priority` of the repeated expression, kind 4 an interval, kind 10 three.
-#[derive(Drop)]
+#[derive(Clone, Copy)]
 pub enum ParserError {
     IllegalToken(u16),
     UnexpectedNote(u16),
@@ -26,7 +26,7 @@ pub enum ParserError {
 }
 
 // The four numbers of an error: its kind, then its values, then zeros.
-#[derive(Drop)]
+#[derive(Clone, Copy)]
 pub struct Row {
     pub kind: u16,
     pub a: u16,

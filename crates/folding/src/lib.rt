@@ -1,4 +1,6 @@
 // Folding of tokens in three lent arrays, in place.
+#![tactic(auto)]
+
 ghost use Rattle.std.specs.Prelude.{◌≡◌, ℕ, ◌+◌, ◌^◌, ◌<◌, ◌≤◌, min, length, set, take};
 ghost use Rattle.token.specs.Token.{rows, Room, Untouched, at as tokenAt};
 ghost use Rattle.folding.specs.Folding.{paired, fold7, count, is_maj, concat, pre_process};
@@ -7,7 +9,7 @@ ghost use Rattle.folding.specs.State.{Latest, Joined, Apart, Counted, partner_ca
 use token::{DIM, DIM7, MAJ, MAJ7, SEVEN};
 
 // How many tokens there are so far, and how many partners and sevens among them are unpaired.
-#[derive(Drop)]
+#[derive(Clone, Copy)]
 pub struct Out {
     pub at: usize,
     pub partners: usize,

@@ -10,7 +10,7 @@ use intervals::{
 };
 
 // b2 for b9, 2 for 9, #4 for #11, or none.
-#[derive(Drop)]
+#[derive(Clone, Copy)]
 pub enum SusKind {
     Plain,
     Flat2,

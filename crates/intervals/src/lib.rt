@@ -1,4 +1,6 @@
 // The 23 intervals as numbers, their semitones, and sets of intervals.
+#![tactic(auto)]
+
 ghost use Rattle.std.specs.Prelude.{◌↔◌, ◌≡◌, true, [], ◌<◌, ◌≤◌, length};
 ghost use Rattle.intervals.specs.Interval.{semitones, empty, insert, remove, replace, remove_then_add};
 ghost use Rattle.intervals.specs.Stored.{members, within, listed, list_of};
@@ -64,7 +66,7 @@ pub fn st(interval: u8) -> u8
 }
 
 // Which of the 23 intervals are members: the binary digits of a number, the lowest first. A digit from 23 on is a member outside the table.
-#[derive(Drop)]
+#[derive(Clone, Copy)]
 pub struct IntervalSet {
     pub bits: u32,
 }
@@ -132,7 +134,7 @@ impl IntervalSet {
 }
 
 // A list of at most 23 interval numbers: the first `len` of `numbers`, all of them where `len` is larger. Any numbers may stand in it.
-#[derive(Drop)]
+#[derive(Clone, Copy)]
 pub struct IntervalList {
     pub numbers: [u8; 23],
     pub len: usize,

@@ -1,4 +1,6 @@
 // Sets of the 128 keys of MIDI, and the keys that a chord wants.
+#![tactic(auto)]
+
 ghost use Rattle.std.specs.Prelude.{◌≡◌, ℕ, ◌≤◌, ◌<◌, length};
 ghost use Rattle.intervals.specs.Interval.{empty, insert};
 ghost use Rattle.keys.specs.Keys.{ascending, minus};
@@ -8,7 +10,7 @@ pub mod bytes;
 pub mod wanted;
 
 // Which of the 128 keys are members: the binary digits of two numbers, the lowest first.
-#[derive(Drop)]
+#[derive(Clone, Copy)]
 pub struct Keys {
     pub low: u64,
     pub high: u64,

@@ -13,7 +13,7 @@ use intervals::{IntervalList, st};
 use note::{Note, OptionalNote};
 
 // Those from 0 to 127 of the keys that a chord wants, and whether it wants others.
-#[derive(Drop)]
+#[derive(Clone, Copy)]
 pub struct Wanted {
     pub keys: Keys,
     pub outside: bool,

@@ -1,4 +1,6 @@
 // From a text to its tokens: the word list, what stands at a place, and the walk over the text.
+#![tactic(auto)]
+
 ghost use mathlib.Core.List.{[], map, zip_with};
 ghost use Rattle.std.specs.Prelude.{false, ◌≡◌, ◌+◌, ◌<◌, ◌≤◌, min, length, get_or, drop};
 ghost use Rattle.intervals.specs.Interval.{elem};
@@ -138,7 +140,7 @@ pub const INFOS: [[u8; 3]; 55] = [
 const LONGEST_WORD: usize = 10;
 
 // The word that was found: its length, 0 for none, and the number of its type.
-#[derive(Drop)]
+#[derive(Clone, Copy)]
 pub struct Match {
     pub len: usize,
     pub kind: u8,
@@ -146,7 +148,7 @@ pub struct Match {
 
 // What stands at a place of the text: a space; a sign or a word with the number of its type and its bytes; a number with the number of its
 // type, its length, which is its count of digits, and its bytes; a digit of no number with its bytes.
-#[derive(Drop)]
+#[derive(Clone, Copy)]
 pub enum Head {
     Space,
     Sign(u8, usize),
@@ -156,7 +158,7 @@ pub enum Head {
 }
 
 // The place in the text and the count of tokens; those from `held` on are the Illegal digits of a run that goes on.
-#[derive(Drop)]
+#[derive(Clone, Copy)]
 pub struct Scan {
     pub at: usize,
     pub held: usize,
@@ -164,7 +166,7 @@ pub struct Scan {
 }
 
 // What a head adds: a token and its place, or none; and the state after it.
-#[derive(Drop)]
+#[derive(Clone, Copy)]
 pub struct Plan {
     pub adds: bool,
     pub place: usize,

@@ -1,4 +1,6 @@
 // Song lines: a reader that holds the line and its position hands out one bar after the other.
+#![tactic(auto)]
+
 ghost use Rattle.std.specs.Prelude.{◌≡◌, ◌≤◌, length};
 ghost use Rattle.song.specs.State.{Stepped};
 ghost use Rattle.line_reader.specs.State.{Handed, NextStepped};
@@ -6,14 +8,14 @@ ghost use Rattle.line_reader.specs.State.{Handed, NextStepped};
 use song::Step;
 
 // A lent line and a position in it, which may be any.
-#[derive(Drop)]
+#[derive(Clone, Copy)]
 pub struct LineReader<'a> {
     pub line: &'a [u8],
     pub at: usize,
 }
 
 // A step, its bar as a part of the line, and the reader after it.
-#[derive(Drop)]
+#[derive(Clone, Copy)]
 pub struct NextStep<'a> {
     pub step: Step,
     pub bar: &'a [u8],

@@ -1,6 +1,8 @@
 // Lines of standard input, out of blocks. The caller lends a buffer for blocks and one for a line, and asks for the next line until no
 // call may follow: `while 0 < s.left { s = next(block, line, s); .. }`, where the first `s.len` bytes of `line` are a line if `s.ready`.
 // What the system reads cannot be said; all else is.
+#![tactic(auto)]
+
 ghost use Rattle.std.specs.Prelude.{List, ◌≡◌, ℕ, ◌+◌, ◌≤◌, ◌<◌, length};
 ghost use Rattle.lines.specs.Input.{Inside, Next, Read, Took, kept as Input·kept, nothing_read, to_newline};
 
@@ -11,7 +13,7 @@ const STDIN: i32 = 0;
 // Where reading stands: the bytes of the block from `at` to `end` are not taken yet, and the first `len` bytes of the line's buffer are
 // those of the line so far, all of them once it is ready; then `lines` is its number, from 1. A proved loop has to end, so calls are
 // counted down from a number that no run uses up; `left` may follow, none at the end of the input.
-#[derive(Drop)]
+#[derive(Clone, Copy)]
 pub struct Input {
     pub at: usize,
     pub end: usize,

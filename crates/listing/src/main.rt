@@ -2,6 +2,8 @@
 // answer's, and for 0 the root's letter and alteration, the bass's (-1 and 0 where there is none), the count and the members of the
 // normalized set and of the display list; for 4 and 5 the count of errors and four numbers for each; for 2 (a text above 256 bytes) and 3
 // (one that is not UTF-8) nothing more.
+#![tactic(auto)]
+
 ghost use Rattle.std.specs.Prelude.{◌<◌, ◌≤◌};
 ghost use Rattle.io.specs.Counts.{IsPrefixLen};
 

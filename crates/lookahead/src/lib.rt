@@ -1,11 +1,13 @@
 // What a token after the one that is read can be to it, and the three that it can ask for.
+#![tactic(auto)]
+
 ghost use Rattle.std.specs.Prelude.{◌≡◌};
 ghost use Rattle.lookahead.specs.Next.{next_of, number_in, is_number, sign_in, is_sign, is_maj7, is_end, note_from};
 
 use note::{Note, NoteLiteral, OptionalNote, RootModifier};
 use token::TokenType;
 
-#[derive(Drop)]
+#[derive(Clone, Copy)]
 pub enum Next {
     Note(NoteLiteral),
     Sharp,
@@ -17,7 +19,7 @@ pub enum Next {
 }
 
 // The three tokens after the one that is read, and where the first two stand.
-#[derive(Drop)]
+#[derive(Clone, Copy)]
 pub struct Ahead {
     pub first: Next,
     pub second: Next,

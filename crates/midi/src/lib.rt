@@ -1,4 +1,6 @@
 // MIDI out: from the keys that sound to those of the next chord, in messages.
+#![tactic(auto)]
+
 ghost use Rattle.std.specs.Prelude.{◌≡◌};
 ghost use Rattle.midi.specs.State.{Next};
 
@@ -11,7 +13,7 @@ use writer::has_text;
 pub mod messages;
 
 // The answer to a chord; that of one that is not refused carries the length of its messages.
-#[derive(Drop)]
+#[derive(Clone, Copy)]
 pub enum Answer {
     Sent(usize),
     NoText,
@@ -20,7 +22,7 @@ pub enum Answer {
 }
 
 // The answer, and the keys that sound after it.
-#[derive(Drop)]
+#[derive(Clone, Copy)]
 pub struct Step {
     pub answer: Answer,
     pub keys: Keys,

@@ -1,4 +1,6 @@
 // The C boundary: include/nophtris.h declares the functions. A record is 51 bytes there.
+#![tactic(auto)]
+
 ghost use Rattle.std.specs.Prelude.{cond, [], ◌∷◌, ◌≡◌, ◌+◌, ◌≤◌, ◌<◌, eqb, ltb, drop, length, take};
 ghost use Rattle.chord.specs.Chord.{four_of};
 ghost use Rattle.intervals.specs.Stored.{members, listed};

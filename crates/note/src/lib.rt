@@ -1,4 +1,6 @@
 // Notes: letter and modifier, their numbers and their pitch classes.
+#![tactic(auto)]
+
 ghost use Rattle.std.specs.Prelude.{◌≡◌, ◌<◌};
 ghost use Rattle.note.specs.Note.{letter_number, letter_of, alteration_of, member_class, modifier_number, modifier_of, note_number, note_of, pitch_class};
 
@@ -8,7 +10,7 @@ mod pitch;
 
 use pitch::{letter_class, modifier_class};
 
-#[derive(Drop)]
+#[derive(Clone, Copy)]
 pub enum NoteLiteral {
     C,
     D,
@@ -19,21 +21,21 @@ pub enum NoteLiteral {
     B,
 }
 
-#[derive(Drop)]
+#[derive(Clone, Copy)]
 pub enum RootModifier {
     Natural,
     Sharp,
     Flat,
 }
 
-#[derive(Drop)]
+#[derive(Clone, Copy)]
 pub struct Note {
     pub literal: NoteLiteral,
     pub modifier: RootModifier,
 }
 
 // The root or the slash bass of a chord, where there is one.
-#[derive(Drop)]
+#[derive(Clone, Copy)]
 pub enum OptionalNote {
     None,
     Some(Note),

@@ -1,5 +1,7 @@
 // Output in a lent buffer, of which the first `used` bytes wait to be written. Each `put` gives the new count. What the
 // system writes cannot be said; all else is.
+#![tactic(auto)]
+
 ghost use Rattle.std.specs.Prelude.{cond, [], ◌∷◌, ◌≡◌, ◌-◌, ltb, replicate, take};
 ghost use Rattle.output.specs.Output.{Put, PutNumber};
 

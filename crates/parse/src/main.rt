@@ -2,6 +2,8 @@
 // UTF-8, and then nothing more), the root's letter and alteration (-1 and 0 where there is no root), the count of expressions and three
 // numbers for each (kind, interval or letter, position or alteration), the count of errors and four numbers for each. Every number is
 // right-justified in four columns.
+#![tactic(auto)]
+
 ghost use Rattle.std.specs.Prelude.{◌*◌, ◌≤◌, length};
 ghost use Rattle.io.specs.Counts.{IsPrefixLen};
 

@@ -16,7 +16,7 @@ use step::step::process_inside;
 use token::{Bracket, TokenType, bracket_kind};
 
 // How many errors and expressions there are, and the root.
-#[derive(Drop)]
+#[derive(Clone, Copy)]
 pub struct ParseResult {
     pub root: OptionalNote,
     pub errors: usize,

@@ -11,7 +11,7 @@ use step::effect::Here;
 use token::TokenType;
 
 // `at` is the next token; `errors` and `exps` count what stands in the lent lists.
-#[derive(Drop)]
+#[derive(Clone, Copy)]
 pub struct State {
     pub at: usize,
     pub count: i16,

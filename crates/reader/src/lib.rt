@@ -1,4 +1,6 @@
 // Reading a card: the five questions, in the paper's order, and blank texts before the last two.
+#![tactic(auto)]
+
 ghost use Rattle.std.specs.Prelude.{map, ◌≡◌, ◌+◌, ◌≤◌, length};
 ghost use Rattle.chord.specs.Chord.{four_of, no_chord, record_of};
 ghost use Rattle.expression.specs.Expression.{exp_of};
@@ -12,7 +14,7 @@ use chord::Chord;
 use note::OptionalNote;
 
 // The answer to a card; 4 and 5 carry the count of errors.
-#[derive(Drop)]
+#[derive(Clone, Copy)]
 pub enum Answer {
     Accepted,
     ShortList,
@@ -23,7 +25,7 @@ pub enum Answer {
 }
 
 // The answer, and the record of an accepted text; a text that is refused gets the record of no chord, as a blank one does.
-#[derive(Drop)]
+#[derive(Clone, Copy)]
 pub struct Reading {
     pub answer: Answer,
     pub chord: Chord,

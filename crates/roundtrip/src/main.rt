@@ -4,6 +4,8 @@
 // display list have a text with a root, how many records have one without, how many texts were read, how many of these were refused or
 // read as another four, the length of the longest, and the most keys that a record wants, which bounds the MIDI messages from one to
 // another.
+#![tactic(auto)]
+
 use chord::Chord;
 use intervals::{IntervalList, IntervalSet};
 use keys::wanted::keys_of;
@@ -11,7 +13,7 @@ use note::{Note, OptionalNote};
 
 const STDOUT: i32 = 1;
 
-#[derive(Drop)]
+#[derive(Clone, Copy)]
 struct Counts {
     pairs: u64,
     rootless: u64,
@@ -59,7 +61,7 @@ fn key_count(chord: Chord) -> usize {
 }
 
 // Whether a record was written and its spelling reads as its four, how long this is, and how many keys the record wants.
-#[derive(Drop)]
+#[derive(Clone, Copy)]
 struct Back {
     same: bool,
     len: usize,

@@ -61,7 +61,7 @@ fn put_intervals(set: IntervalSet) {
 }
 
 // The pitch classes: which of the twelve sound.
-#[derive(Drop)]
+#[derive(Clone, Copy)]
 struct Classes {
     sound: [bool; 12],
 }

@@ -3,6 +3,8 @@
 // refused text each error in plain words, with a caret under its place in the text. A text with a `|` is a song line, and each of its bars
 // is shown so, below its number. A line is kept up to its 4,098th byte: one that is cut has more than 4,096 without a carriage return too.
 // A `|` behind them is not looked for.
+#![tactic(auto)]
+
 ghost use Rattle.std.specs.Prelude.{◌≤◌, length};
 
 mod chords;

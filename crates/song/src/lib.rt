@@ -1,4 +1,6 @@
 // Song lines: a step reads the bar at a position.
+#![tactic(auto)]
+
 ghost use Rattle.std.specs.Prelude.{◌≡◌};
 ghost use Rattle.chord.specs.Chord.{no_chord, record_of};
 ghost use Rattle.song.specs.declared.Answer.TheVariants.{Bar};
@@ -9,7 +11,7 @@ use chord::Chord;
 use reader::Reading;
 
 // What a step says: a line that is too long (8), the end, or the answer to the bar's text.
-#[derive(Drop)]
+#[derive(Clone, Copy)]
 pub enum Answer {
     TooLong,
     End,
@@ -18,7 +20,7 @@ pub enum Answer {
 
 // What a step says, the record of an accepted bar, where the bar lies in the line (from its first byte to the one behind its last), and
 // where the next step begins. Without an accepted bar the record has no root, and without a bar the place is 0 to 0.
-#[derive(Drop)]
+#[derive(Clone, Copy)]
 pub struct Step {
     pub answer: Answer,
     pub chord: Chord,

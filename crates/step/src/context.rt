@@ -4,19 +4,19 @@ ghost use Rattle.step.specs.Context.{on_comma, is_none, start_group, member_of};
 
 use expression::expression::Exp;
 
-#[derive(Drop)]
+#[derive(Clone, Copy)]
 pub enum GroupKind {
     Omit,
     Add,
 }
 
-#[derive(Drop)]
+#[derive(Clone, Copy)]
 pub struct GroupContext {
     pub kind: GroupKind,
     pub active: bool,
 }
 
-#[derive(Drop)]
+#[derive(Clone, Copy)]
 pub enum Context {
     None,
     Sus,

@@ -7,20 +7,20 @@ use crate::context::Context;
 use expression::expression::Exp;
 use expression::parser_error::ParserError;
 
-#[derive(Drop)]
+#[derive(Clone, Copy)]
 pub enum Gains {
     None,
     One(Exp),
     Two(Exp, Exp),
 }
 
-#[derive(Drop)]
+#[derive(Clone, Copy)]
 pub enum OptionalError {
     None,
     Some(ParserError),
 }
 
-#[derive(Drop)]
+#[derive(Clone, Copy)]
 pub struct Effect {
     pub taken: usize,
     pub count: i16,
@@ -30,7 +30,7 @@ pub struct Effect {
 }
 
 // Where the token stands and the state before it; `six` is whether the last expression is the extension 6.
-#[derive(Drop)]
+#[derive(Clone, Copy)]
 pub struct Here {
     pub pos: u16,
     pub len: u16,

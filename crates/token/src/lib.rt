@@ -1,10 +1,12 @@
 // Tokens: their types, what each is to a bracket, and lists of them in three lent arrays of numbers.
+#![tactic(auto)]
+
 ghost use Rattle.std.specs.Prelude.{◌≡◌, ◌+◌, ◌<◌, set};
 ghost use Rattle.token.specs.Token.{bracket_kind, token as tokenOf, type_of, plain_type, rows, Room, at as tokenAt};
 
 use note::NoteLiteral;
 
-#[derive(Drop)]
+#[derive(Clone, Copy)]
 pub enum TokenType {
     Note(NoteLiteral),
     Sharp,
@@ -32,7 +34,7 @@ pub enum TokenType {
 }
 
 // What a token can be to the bracket around it.
-#[derive(Drop)]
+#[derive(Clone, Copy)]
 pub enum Bracket {
     Opens,
     Closes,

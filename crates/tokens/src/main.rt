@@ -1,6 +1,8 @@
 // Prints the folded tokens of each line of standard input: the line's number, 0 (2 for a text above 256 bytes, 3 for one that is not
 // UTF-8, and then nothing more), the count of tokens, and for each its type's place among the 23, what it carries, its position and its
 // length. Every number is right-justified in four columns.
+#![tactic(auto)]
+
 ghost use Rattle.io.specs.Counts.{IsPrefixLen};
 ghost use Rattle.token.specs.Token.{Room};
 

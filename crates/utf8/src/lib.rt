@@ -1,10 +1,12 @@
 // UTF-8 by RFC 3629: one character at a position, and whether a whole text is well formed.
+#![tactic(auto)]
+
 ghost use Rattle.std.specs.Prelude.{true, ◌≡◌, ◌+◌, ◌<◌, ◌≤◌, length, get_or};
 ghost use Rattle.utf8.specs.State.{unpacked, length_of};
 ghost use Rattle.utf8.specs.Utf8.{char_of, char_at, well_formed};
 
 // What stands at a position: a character with its code and its length in bytes, bytes that begin no character, or nothing.
-#[derive(Drop)]
+#[derive(Clone, Copy)]
 pub enum Found {
     Char(u32, usize),
     Bad,

@@ -1,5 +1,7 @@
 // Runs `utf8` over vectors of public documents. A line of standard input that begins with `#` is a comment and is copied. Any other holds
 // bytes in hexadecimal; its answer is `well` or `ill`, the code of each character or `-` for a byte that begins none, and `end`.
+#![tactic(auto)]
+
 ghost use Rattle.std.specs.Prelude.{◌<◌, ◌≤◌, length};
 ghost use Rattle.io.specs.Counts.{IsPrefixLen};
 

@@ -105,7 +105,7 @@ fn priority(e: Exp) -> u8
 }
 
 // How many expressions of each priority there are.
-#[derive(Drop)]
+#[derive(Clone, Copy)]
 pub struct Counts {
     pub of: [u16; 15],
 }

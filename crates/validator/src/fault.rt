@@ -6,7 +6,7 @@ ghost use Rattle.validator.specs.Validator.{only};
 
 use expression::parser_error::{ParserError, store};
 
-#[derive(Drop)]
+#[derive(Clone, Copy)]
 pub enum Fault {
     None,
     Some(ParserError),

@@ -1,4 +1,6 @@
 // Validation: the three checks of a chord's expressions and of the set that they make. All run, and their errors are joined.
+#![tactic(auto)]
+
 ghost use Rattle.std.specs.Prelude.{map, ◌≡◌, ◌≤◌, length};
 ghost use Rattle.intervals.specs.Stored.{members};
 ghost use Rattle.expression.specs.Expression.{exp_of};

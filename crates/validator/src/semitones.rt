@@ -12,7 +12,7 @@ use expression::parser_error::ParserError;
 use intervals::{IntervalSet, st};
 
 // The last interval of each class; 23 where there is none.
-#[derive(Drop)]
+#[derive(Clone, Copy)]
 pub struct Lasts {
     pub of: [u8; 12],
 }

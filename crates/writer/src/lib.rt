@@ -1,4 +1,6 @@
 // Writing a record: the two questions, in the paper's order, and its house spelling.
+#![tactic(auto)]
+
 ghost use Rattle.std.specs.Prelude.{true, ◌↔◌, ◌≡◌, ◌≤◌, length};
 ghost use Rattle.chord.specs.Chord.{four_of};
 ghost use Rattle.house_text.specs.Spelling.{house};
@@ -14,7 +16,7 @@ use spelling::put_spelling;
 mod spelling;
 
 // The answer to a record; an accepted one's carries the length of its spelling.
-#[derive(Drop)]
+#[derive(Clone, Copy)]
 pub enum Answer {
     Spelled(usize),
     ShortBuffer,
