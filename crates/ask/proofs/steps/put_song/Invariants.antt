@@ -1,0 +1,12 @@
+-- The measure is the count of steps that are left.
+-- Assumes nothing.
+use mathlib.Core.Path.{◌≡◌}
+use lib.ListN.{length}
+use borrow.Author.Rules.{rules}
+use Rattle.ask.proofs.steps.put_song.Given as goal
+
+abbrev pub invariant-loop-left : goal.invariant-loop-left
+invariant-loop-left l = (length l.u ≡ length l.initial.out) × (length l.initial.at ≡ length l.line)
+
+abbrev pub decreases-loop-left : goal.decreases-loop-left
+decreases-loop-left l = l.left

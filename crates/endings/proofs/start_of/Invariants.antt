@@ -1,0 +1,15 @@
+-- At each place the bar looked for is bar `left` of what is left of the line (`Passing`).
+-- Assumes nothing.
+use mathlib.Core.Logic.{⊎_elim}
+use mathlib.Core.Path.{sym, subst}
+use Prim.Native.Nat.{◌-◌, ◌+◌}
+use native.Mathlib.Omega.{arith}
+use lib.ListN.{length}
+use Rattle.endings.proofs.Starts.{Passing, passing_first, passing_other, passing_stroke, passed_all, passed_to}
+use Rattle.endings.proofs.start_of.Given as goal
+
+abbrev pub invariant-loop-left : goal.invariant-loop-left
+invariant-loop-left l = Passing l.line l.number l.initial.left l.left
+
+abbrev pub decreases-loop-left : goal.decreases-loop-left
+decreases-loop-left l = length l.line - l.initial.left

@@ -1,0 +1,7 @@
+-- The four one after another.
+-- Assumes nothing.
+use borrow.Author.Rules.{rules}
+use Rattle.evaluator.proofs.stages.alter_alt.Goals as goal
+
+pub returns : goal.returns
+returns c = rw (c.alter-4.ensures, c.alter-3.ensures, c.alter-2.ensures, c.alter.ensures)

@@ -1,0 +1,7 @@
+-- One after the other.
+-- Assumes nothing.
+use borrow.Author.Rules.{rules}
+use Rattle.evaluator.proofs.stages.prune.Goals as goal
+
+pub returns : goal.returns
+returns c = rw (c.prune11.ensures, c.prune6.ensures)

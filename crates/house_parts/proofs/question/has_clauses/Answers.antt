@@ -1,0 +1,30 @@
+-- The invariant: whether all clauses hold is whether those from here on do.
+-- Assumes nothing.
+use mathlib.Core.Path.{◌≡◌, refl, sym, ◌∙◌}
+use Prim.Native.Nat.{◌-◌, ◌≤◌}
+use native.Mathlib.Omega.{arith}
+use lib.ListN.{drop}
+use borrow.Author.Rules.{rules}
+use borrow.Author.Tests.{not-false, not-true}
+use Rattle.intervals.specs.Stored.{members}
+use Rattle.house_parts.specs.Question.{all, clauses}
+use Rattle.house_parts.proofs.Tests.{all_end, all_fails, all_past}
+use Rattle.house_parts.proofs.question.has_clauses.Goals as goal
+
+pub loop-i-init : goal.loop-i-init
+loop-i-init c = (omega arith, refl)
+
+pub returns-then-not-clause_at : goal.returns-then-not-clause_at
+returns-then-not-clause_at c =
+    let l = clauses (members c.args.set) c.args.k in
+    let e = sym c.clause_at.ensures ∙ not-true c.clause_at.result c.if-not-clause_at.true-raw in
+    sym (c.loop-i.invariant.1 ∙ all_fails l c.loop-i.i c.loop-i-test.true e)
+
+pub loop-i-preserved : goal.loop-i-preserved
+loop-i-preserved c =
+    let l = clauses (members c.args.set) c.args.k in
+    let e = sym c.clause_at.ensures ∙ not-false c.clause_at.result c.if-not-clause_at.false-raw in
+    (omega (arith, c.loop-i-test.true), c.loop-i.invariant.1 ∙ all_past l c.loop-i.i c.loop-i-test.true e)
+
+pub returns : goal.returns
+returns c = sym (c.loop-i.invariant.1 ∙ all_end (clauses (members c.args.set) c.args.k) c.loop-i.i c.loop-i-test.false)

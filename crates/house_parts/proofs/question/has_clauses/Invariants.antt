@@ -1,0 +1,18 @@
+-- The invariant: whether all clauses hold is whether those from here on do.
+-- Assumes nothing.
+use mathlib.Core.Path.{◌≡◌, refl, sym, ◌∙◌}
+use Prim.Native.Nat.{◌-◌, ◌≤◌}
+use native.Mathlib.Omega.{arith}
+use lib.ListN.{drop}
+use borrow.Author.Rules.{rules}
+use borrow.Author.Tests.{not-false, not-true}
+use Rattle.intervals.specs.Stored.{members}
+use Rattle.house_parts.specs.Question.{all, clauses}
+use Rattle.house_parts.proofs.Tests.{all_end, all_fails, all_past}
+use Rattle.house_parts.proofs.question.has_clauses.Given as goal
+
+abbrev pub invariant-loop-i : goal.invariant-loop-i
+invariant-loop-i l = (l.i ≤ 15) × (all (clauses (members l.set) l.k) ≡ all (drop l.i (clauses (members l.set) l.k)))
+
+abbrev pub decreases-loop-i : goal.decreases-loop-i
+decreases-loop-i l = 15 - l.i

@@ -1,0 +1,16 @@
+-- The invariant: the tokens from j on stand one place further.
+-- Assumes nothing.
+use mathlib.Core.Path.{◌≡◌, refl}
+use native.Mathlib.Omega.{arith}
+use lib.ListN.{length}
+use borrow.Author.Rules.{rules}
+use Rattle.token.specs.Token.{rows}
+use Rattle.lexer.proofs.Shifts.{Shifting, shifting_start, shifting_step, shifting_end}
+use Rattle.token.proofs.Rows.{rows-room}
+use Rattle.lexer.proofs.insert.Given as goal
+
+abbrev pub invariant-loop-j : goal.invariant-loop-j
+invariant-loop-j l = Shifting l.poss l.initial.lens (rows l.initial.kinds l.kinds l.initial.poss) (rows l.pos l.len l.initial.j) l.j × (length l.pos ≡ length l.initial.kinds) × (length l.len ≡ length l.kinds) × (length l.initial.j ≡ length l.initial.poss)
+
+abbrev pub decreases-loop-j : goal.decreases-loop-j
+decreases-loop-j l = l.j

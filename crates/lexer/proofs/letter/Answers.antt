@@ -1,0 +1,16 @@
+-- The table's row of a word begins with its letters.
+-- Assumes nothing.
+use mathlib.Core.List.{[]}
+use mathlib.Core.Path.{ap, ◌∙◌}
+use native.Mathlib.Omega.{arith}
+use lib.ListN.{get_or}
+use borrow.Author.Rules.{rules}
+use Rattle.lexer.proofs.Runs.{word_fits}
+use Rattle.lexer.proofs.Words.{letter-is}
+use Rattle.lexer.proofs.letter.Goals as goal
+
+pub returns : goal.returns
+returns c =
+    let a = c.args in
+    let p = c.requires in
+    ap (λ t. get_or (get_or t a.i []) a.j 0) p.0 ∙ letter-is a.i p.1 a.j p.2

@@ -1,0 +1,20 @@
+-- The invariant is `Cutting`: the tokens so far and those to come are all, and the rest of the run stands before the place.
+-- Assumes nothing.
+use mathlib.Core.Path.{◌≡◌, refl, ap, ◌∙◌}
+use Prim.Native.Nat.{◌-◌}
+use native.Mathlib.Omega.{arith}
+use lib.ListN.{length}
+use borrow.Author.Rules.{rules}
+use Rattle.token.specs.Token.{rows}
+use Rattle.lexer.specs.Lexer.{word_head}
+use Rattle.lexer.specs.Words.{words}
+use Rattle.lexer.proofs.Steps.{Cutting, went-start, step_asks, step_head, step-place, cut_inside, cut_head, cut_step}
+use Rattle.token.proofs.Rows.{rows-room}
+use Rattle.lexer.proofs.parse_string.Given as goal
+
+abbrev pub invariant-loop-s : goal.invariant-loop-s
+invariant-loop-s l = Cutting l.text l.poss l.initial.lens l.s (rows l.initial.kinds l.kinds l.initial.poss) (rows l.lens l.end l.initial.s)
+    × (length l.lens ≡ length l.initial.kinds) × (length l.end ≡ length l.kinds) × (length l.initial.s ≡ length l.initial.poss)
+
+abbrev pub decreases-loop-s : goal.decreases-loop-s
+decreases-loop-s l = l.poss - l.s.at

@@ -1,0 +1,17 @@
+-- The invariant: the run ends where the rest of it does.
+-- Assumes nothing.
+use mathlib.Core.Path.{◌≡◌, refl, sym, ◌∙◌}
+use Prim.Native.Nat.{◌+◌, ◌-◌, ◌≤◌}
+use native.Mathlib.Omega.{arith}
+use lib.ListN.{length, drop}
+use borrow.Author.Rules.{rules}
+use borrow.Author.Tests.{not-true, not-false}
+use Rattle.lexer.specs.Words.{run_end}
+use Rattle.lexer.proofs.Runs.{run_done, run_stop, run_turn}
+use Rattle.lexer.proofs.run_end.Given as goal
+
+abbrev pub invariant-loop-end : goal.invariant-loop-end
+invariant-loop-end l = (l.end ≤ length l.text) × (l.at + run_end (drop l.at l.text) ≡ l.end + run_end (drop l.end l.text))
+
+abbrev pub decreases-loop-end : goal.decreases-loop-end
+decreases-loop-end l = length l.text - l.end

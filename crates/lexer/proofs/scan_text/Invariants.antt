@@ -1,0 +1,20 @@
+-- The invariant is `Went`: what stands in the arrays and what is still to come make the tokens of the text.
+-- Assumes nothing.
+use mathlib.Core.Path.{◌≡◌, refl}
+use Prim.Native.Nat.{◌-◌, ◌≤◌}
+use native.Mathlib.Omega.{arith}
+use lib.ListN.{length}
+use borrow.Author.Rules.{rules}
+use Rattle.token.specs.Token.{rows}
+use Rattle.lexer.specs.State.{Went}
+use Rattle.lexer.specs.Words.{words}
+use Rattle.lexer.proofs.Steps.{went-start, went_on, went-end}
+use Rattle.token.proofs.Rows.{rows-room}
+use Rattle.lexer.proofs.scan_text.Given as goal
+
+abbrev pub invariant-loop-s : goal.invariant-loop-s
+invariant-loop-s l = Went l.text l.poss l.s (rows l.initial.kinds l.kinds l.initial.poss) (rows l.initial.lens l.lens l.initial.s)
+    × (length l.initial.lens ≡ length l.initial.kinds) × (length l.lens ≡ length l.kinds) × (length l.initial.s ≡ length l.initial.poss)
+
+abbrev pub decreases-loop-s : goal.decreases-loop-s
+decreases-loop-s l = length l.text - l.s.at

@@ -1,0 +1,11 @@
+-- The table is what the word list says, by computation.
+-- Assumes nothing.
+use mathlib.Core.Path.{refl}
+use mathlib.Core.List.{zip_with}
+use Rattle.lexer.specs.State.{nexts_from, place_down, place_of}
+use Rattle.lexer.specs.Words as Words
+use Rattle.lexer.proofs.word_infos.Goals as goal
+
+pub returns : goal.returns
+unfolding Words.words nexts_from place_down place_of zip_with
+returns c = refl

@@ -1,0 +1,17 @@
+-- As many bytes are passed as the walk from the first says less what it says from here on; the measure is what is left of them.
+-- Assumes nothing.
+use mathlib.Core.Path.{◌≡◌}
+use Prim.Native.Nat.{◌+◌, ◌-◌, ◌≤◌}
+use native.Mathlib.Omega.{arith}
+use borrow.Author.Tests.{eq-eqb, ne_eqb}
+use lib.ListN.{drop, length}
+use Rattle.lines.specs.Input.{to_newline}
+use Rattle.lines.proofs.Newlines.{further, here, nothing}
+use borrow.Author.Rules.{rules}
+use Rattle.lines.proofs.to_newline.Given as goal
+
+abbrev pub invariant-loop-i : goal.invariant-loop-i
+invariant-loop-i l = (l.i ≤ length l.bytes) × (l.i + to_newline (drop l.i l.bytes) ≡ to_newline l.bytes)
+
+abbrev pub decreases-loop-i : goal.decreases-loop-i
+decreases-loop-i l = length l.bytes - l.i

@@ -1,0 +1,9 @@
+-- The errors lie within the list.
+-- Assumes nothing.
+use mathlib.Core.Path.{sym}
+use lib.Seq.{length-take-le}
+use borrow.Author.Rules.{rules}
+use Rattle.listing.proofs.put_refusal.Goals as goal
+
+pub slice_bounds-put_errors-end : goal.slice_bounds-put_errors-end
+slice_bounds-put_errors-end c = sym (length-take-le _ _ c.if-k-errs.true)

@@ -1,0 +1,15 @@
+-- The invariant: the messages of the digits taken off so far stand behind the first n bytes. The measure is the number that is left.
+-- Assumes nothing.
+use mathlib.Core.Path.{◌≡◌}
+use Prim.Native.Nat.{◌*◌, ◌%◌, ◌^◌, ◌<◌}
+use native.Mathlib.Omega.{arith}
+use lib.Count.{count_trailing_zeros, trailing_le}
+use Rattle.intervals.proofs.Bits.{power}
+use Rattle.midi.proofs.Words.{Progress, finish, kept, less, next_place, room, start, step}
+use Rattle.midi.proofs.messages.put_word.Given as goal
+
+abbrev pub invariant-loop-left : goal.invariant-loop-left
+invariant-loop-left l = Progress l.n l.status l.velocity l.from l.out l.initial.out l.m l.initial.left l.left
+
+abbrev pub decreases-loop-left : goal.decreases-loop-left
+decreases-loop-left l = l.left

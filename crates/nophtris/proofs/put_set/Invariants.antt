@@ -1,0 +1,21 @@
+-- The invariant: the first i bytes of the set's 23 stand behind the first n of the memory.
+-- Assumes nothing.
+use mathlib.Core.List.{[], ◌∷◌}
+use mathlib.Core.Path.{◌≡◌, sym, ap, ◌∙◌}
+use Prim.Native.Nat.{ℕ, ◌-◌, ◌≤◌, ◌<◌}
+use native.Mathlib.Omega.{arith}
+use lib.ListN.{length, take}
+use lib.Seq.{length-take-le, take_all}
+use borrow.Author.Rules.{rules}
+use Rattle.intervals.specs.Stored.{members}
+use Rattle.writer.proofs.Puts.{put-none, put_as, put_next, put-length}
+use Rattle.writer.specs.State.{Put}
+use Rattle.nophtris.specs.Boundary.{set_bytes}
+use Rattle.nophtris.proofs.Bytes.{set_at}
+use Rattle.nophtris.proofs.put_set.Given as goal
+
+abbrev pub invariant-loop-i : goal.invariant-loop-i
+invariant-loop-i l = (l.i ≤ 23) × Put l.out l.initial.i (take l.i (set_bytes 23 0 (members l.n))) l.initial.out l.m
+
+abbrev pub decreases-loop-i : goal.decreases-loop-i
+decreases-loop-i l = 23 - l.i

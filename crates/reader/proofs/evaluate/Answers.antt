@@ -1,0 +1,39 @@
+-- By whether validation wrote an error.
+use Rattle.intervals.specs.Interval.{Set}
+use Rattle.evaluator.specs.Evaluator.{eval_set}
+use Rattle.expression.specs.Expression.{exp_of}
+use Rattle.reader.proofs.Judge.{gave_errors, gave_none, untouched}
+use Rattle.reader.specs.Reader.{accepted, count_of, number_of}
+use Rattle.expression.specs.State.{Wrote}
+use Rattle.validator.specs.Validator.{validation_of}
+use borrow.Author.Rules.{rules}
+use mathlib.Core.List.{map}
+use mathlib.Core.Path.{◌≡◌, ap, refl, subst}
+use native.Mathlib.Omega.{arith}
+use Rattle.reader.proofs.evaluate.Goals as goal
+
+pub returns-then-n-gt0 : goal.returns-then-n-gt0
+returns-then-n-gt0 c =
+    let a = c.args in
+    let l = map exp_of a.exps.now in
+    let v = c.validate-n in
+    let w = subst (λ (q : Set). Wrote 0 v.result (validation_of l q) a.errs.now v.new.1.1.0) c.evaluate-e.ensures.set v.ensures.0 in
+    gave_errors (validation_of l (eval_set l)) 5 _ v.result c.if-n-gt0.true (omega (arith, w.count)) w.list w.rest
+    (ap number_of c.no_chord.ensures.0) (ap count_of c.no_chord.ensures.0) c.no_chord.ensures.1 c.no_chord.ensures.2
+
+pub returns : goal.returns
+returns c =
+    let a = c.args in
+    let l = map exp_of a.exps.now in
+    let e = c.evaluate-e.ensures in
+    let v = c.validate-n in
+    let w = subst (λ (q : Set). Wrote 0 v.result (validation_of l q) a.errs.now v.new.1.1.0) e.set v.ensures.0 in
+    let z : v.result ≡ 0 = omega (arith, c.if-n-gt0.false) in
+    gave_none (validation_of l (eval_set l)) 5 (accepted a.root l) (omega (arith, z, w.count))
+    (record {
+      number = refl;
+      count = refl;
+      four = λ i. record { root = a.root; bass = e.bass i; normalized = e.set i; display = e.display i };
+      chord = λ i. record { root = a.root; bass = e.bass i; normalized = e.whole i; display = e.list i };
+      list = untouched v.result z w.rest;
+    })

@@ -1,0 +1,15 @@
+-- The invariant: whether the text is blank is whether it is so from here on.
+-- Assumes nothing.
+use mathlib.Core.Path.{◌≡◌, refl, sym, ◌∙◌}
+use Prim.Native.Nat.{◌≤◌, ◌-◌}
+use native.Mathlib.Omega.{arith}
+use lib.ListN.{drop, length}
+use Rattle.reader.specs.Reader.{is_blank}
+use Rattle.reader.proofs.Blank.{blank-ends, blank_on, blank-last}
+use Rattle.reader.proofs.is_blank.Given as goal
+
+abbrev pub invariant-loop-i : goal.invariant-loop-i
+invariant-loop-i l = (l.i ≤ length l.text) × (is_blank l.text ≡ is_blank (drop l.i l.text))
+
+abbrev pub decreases-loop-i : goal.decreases-loop-i
+decreases-loop-i l = length l.text - l.i

@@ -1,0 +1,13 @@
+-- The measure is what is left of the 2^23 sets.
+-- Assumes nothing.
+use mathlib.Core.Path.{◌≡◌}
+use Prim.Native.Nat.{◌-◌, ◌≤◌}
+use lib.ListN.{length}
+use borrow.Author.Rules.{rules}
+use Rattle.roundtrip.proofs.every_set.Given as goal
+
+abbrev pub invariant-loop-bits : goal.invariant-loop-bits
+invariant-loop-bits l = (l.bits ≤ 8388608) × (length l.initial.c ≡ length l.initial.buffer) × (length l.c ≡ length l.buffer)
+
+abbrev pub decreases-loop-bits : goal.decreases-loop-bits
+decreases-loop-bits l = 8388608 - l.bits

@@ -1,0 +1,13 @@
+-- The measure is what is left of the 22 basses.
+-- Assumes nothing.
+use mathlib.Core.Path.{◌≡◌}
+use Prim.Native.Nat.{◌-◌, ◌≤◌}
+use lib.ListN.{length}
+use borrow.Author.Rules.{rules}
+use Rattle.roundtrip.proofs.with_basses.Given as goal
+
+abbrev pub invariant-loop-bass : goal.invariant-loop-bass
+invariant-loop-bass l = (l.bass ≤ 22) × (length l.initial.d ≡ length l.initial.buffer) × (length l.d ≡ length l.buffer)
+
+abbrev pub decreases-loop-bass : goal.decreases-loop-bass
+decreases-loop-bass l = 22 - l.bass

@@ -1,0 +1,19 @@
+-- Each arm is told what was found; where that is a bar, reading it gives the rest.
+-- Assumes nothing.
+use borrow.Author.Rules.{rules}
+use Rattle.song.proofs.Laws.{a_bar, at-end, found_within, too_long}
+use Rattle.song.proofs.step_at.Goals as goal
+
+pub slice_bounds-read-count : goal.slice_bounds-read-count
+slice_bounds-read-count c = (found_within _ _ _ c.place_at-place.ensures).0
+
+pub returns-in-TooLong : goal.returns-in-TooLong
+returns-in-TooLong c = too_long _ _ _ c.place_at-place.ensures _ _ c.in-TooLong.is c.without_bar.ensures
+
+pub returns-in-End : goal.returns-in-End
+returns-in-End c = at-end _ _ _ c.place_at-place.ensures _ _ c.in-End.is c.without_bar-in-End.ensures
+
+pub returns-in-Bar : goal.returns-in-Bar
+returns-in-Bar c =
+    a_bar _ _ _ c.place_at-place.ensures _ _ _ _ c.in-Bar.is c.read-reading.ensures
+    c.with_bar.ensures

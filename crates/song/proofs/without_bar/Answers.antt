@@ -1,0 +1,7 @@
+-- The record of no chord is the one that `Chord::new` gives.
+-- Assumes nothing.
+use borrow.Author.Rules.{rules}
+use Rattle.song.proofs.without_bar.Goals as goal
+
+pub returns : goal.returns
+returns c = rw c.new.ensures.0

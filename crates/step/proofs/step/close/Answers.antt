@@ -1,0 +1,7 @@
+-- As it is written.
+-- Assumes nothing.
+use borrow.Author.Rules.{rules}
+use Rattle.step.proofs.step.close.Goals as goal
+
+pub returns : goal.returns
+returns c = c.lower.ensures

@@ -1,0 +1,7 @@
+-- As it is written.
+-- Assumes nothing.
+use borrow.Author.Rules.{rules}
+use Rattle.step.proofs.step.rparen.Goals as goal
+
+pub returns : goal.returns
+returns c = rw (c.set_context.ensures, c.set_error.ensures, c.lower.ensures)

@@ -1,0 +1,13 @@
+-- The state lies inside the two buffers at each turn; the measure is the count of calls that may follow.
+-- Assumes nothing.
+use mathlib.Core.Path.{◌≡◌, refl}
+use lib.ListN.{length}
+use Rattle.lines.specs.Input.{Inside}
+use borrow.Author.Rules.{rules}
+use Rattle.utf8_vectors.proofs.answer_all.Given as goal
+
+abbrev pub invariant-loop-s : goal.invariant-loop-s
+invariant-loop-s l = Inside l.s l.initial.s l.block × (length l.block ≡ length l.initial.line) × (length l.initial.s ≡ length l.line)
+
+abbrev pub decreases-loop-s : goal.decreases-loop-s
+decreases-loop-s l = l.s.left

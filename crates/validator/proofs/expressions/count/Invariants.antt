@@ -1,0 +1,22 @@
+-- The invariant: what was counted and what is still to be counted make the count.
+-- Assumes nothing.
+use Prim.Native.Nat.{ℕ, ◌-◌, ◌≤◌, ◌<◌, ◌+◌}
+use Rattle.expression.specs.Expression.{exp_of}
+use Rattle.validator.proofs.Arrays.{one_or_none}
+use Rattle.validator.proofs.Walks.{exps_from, count-step, count-end}
+use Rattle.validator.specs.State.{counts_of}
+use Rattle.validator.specs.Validator.{times_of, priority_of}
+use borrow.Author.Rules.{rules}
+use lib.Dec.{eqb}
+use lib.ListN.{length, get_or}
+use mathlib.Core.Bool.{cond}
+use mathlib.Core.List.{map}
+use mathlib.Core.Path.{◌≡◌, ap, ◌∙◌}
+use native.Mathlib.Omega.{arith}
+use Rattle.validator.proofs.expressions.count.Given as goal
+
+abbrev pub invariant-loop-i : goal.invariant-loop-i
+invariant-loop-i l = (l.i ≤ length l.exps) × ((p : ℕ) → p < 15 → times_of (map exp_of l.exps) p ≡ counts_of l.initial.i p + times_of (exps_from l.exps l.i) p) × ((p : ℕ) → p < 15 → counts_of l.initial.i p ≤ l.i)
+
+abbrev pub decreases-loop-i : goal.decreases-loop-i
+decreases-loop-i l = length l.exps - l.i

@@ -1,0 +1,19 @@
+-- The invariant: the errors below i are written.
+-- Assumes nothing.
+use Prim.Native.Nat.{◌-◌, ◌≤◌, ◌+◌}
+use Rattle.intervals.specs.Stored.{members}
+use Rattle.expression.proofs.Wrote.{wrote_none, wrote_then, wrote_as}
+use Rattle.validator.proofs.Walks.{all_start, all-step}
+use Rattle.expression.specs.State.{Wrote}
+use Rattle.validator.specs.Validator.{all_from, conflict_at}
+use borrow.Author.Rules.{rules}
+use lib.ListN.{length}
+use mathlib.Core.Path.{◌≡◌, refl, ap}
+use native.Mathlib.Omega.{arith}
+use Rattle.validator.proofs.extensions.push_conflicts.Given as goal
+
+abbrev pub invariant-loop-i : goal.invariant-loop-i
+invariant-loop-i l = Wrote l.errs l.initial.i (all_from (conflict_at (members l.set)) l.i 0) l.initial.errs l.m × (l.i ≤ 8) × (l.initial.i ≤ l.errs + l.i) × (length l.m ≡ length l.initial.errs)
+
+abbrev pub decreases-loop-i : goal.decreases-loop-i
+decreases-loop-i l = 8 - l.i

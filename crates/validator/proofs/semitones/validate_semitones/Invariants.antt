@@ -1,0 +1,21 @@
+-- The invariant: the errors of the classes below c are written.
+-- Assumes nothing.
+use Prim.Native.Nat.{ℕ, ◌-◌, ◌≤◌, ◌+◌}
+use Rattle.intervals.specs.Stored.{members}
+use Rattle.expression.proofs.Wrote.{wrote_none, wrote_then, wrote_as}
+use Rattle.validator.proofs.Walks.{all_start, all-step, semitones-same}
+use Rattle.expression.specs.State.{Wrote}
+use Rattle.validator.specs.State.{lasts_of, neighbours_in}
+use Rattle.validator.specs.Validator.{all_from}
+use borrow.Author.Rules.{rules}
+use lib.ListN.{length}
+use mathlib.Core.Path.{◌≡◌, refl, ap, ◌∙◌}
+use native.Mathlib.Omega.{arith}
+use Rattle.validator.proofs.semitones.validate_semitones.Given as goal
+
+abbrev pub invariant-loop-c : goal.invariant-loop-c
+invariant-loop-c l = Wrote l.errs l.initial.c (all_from (neighbours_in (lasts_of l.n)) l.c 0) l.initial.errs l.m × (l.c ≤ 12) × (l.initial.c ≤ l.errs + l.c)
+    × (length l.m ≡ length l.initial.errs)
+
+abbrev pub decreases-loop-c : goal.decreases-loop-c
+decreases-loop-c l = 12 - l.c
