@@ -58,7 +58,7 @@ class Names:
                     elif field.endswith("-own"):
                         m = re.match(r"At-match\d*-(keys\d+|rest.*)$", old_place)
                         if m:
-                            self.own.setdefault(m.group(1), field)
+                            self.own.setdefault(m.group(1), f"{arm[0]}.{field}")
         self.arm_paths.sort(key=lambda a: -len(a[1]))
         self.args = {}
         for old, new in entry["args"]:
@@ -97,6 +97,8 @@ class Names:
                 return ".".join([root, arm, field, *rest[len(path):]])
         if key in self.steps:
             renames = self.inner.get(key, {})
+            if rest and rest[0] in ("taken", "left") and key.startswith(("if", "loop_test")):
+                rest[0] = {"taken": "true", "left": "false"}[rest[0]]
             if rest and rest[0] in renames:
                 rest[0] = renames[rest[0]]
             fields = self.fields.get(key)
@@ -223,16 +225,14 @@ def convert(proof, names, module, keep_all):
                 notes.append(f"no loop {kind}")
                 continue
             new, variables, changed = names.loops[key]
-            table, at = {}, 0
-            for variable, moves in zip(variables, changed or [False] * len(variables)):
-                if moves:
-                    table[params[at]] = f"l.initial.{variable}"
-                    at += 1
-                if at < len(params):
-                    table[params[at]] = f"l.{variable}"
-                at += 1
-            if at != len(params):
-                notes.append(f"{kind}: {len(params)} names, {at} wanted: {params} {variables} {changed}")
+            moving = [v for v, moves in zip(variables, changed or []) if moves]
+            first, last = params[: len(params) - len(moving)], params[len(params) - len(moving):]
+            if len(first) == len(variables):
+                table = {p: f"l.initial.{v}" if v in moving else f"l.{v}" for p, v in zip(first, variables)}
+                table.update({p: f"l.{v}" for p, v in zip(last, moving)})
+            else:
+                table = {p: f"l.initial.{p[:-1]}" if p.endswith("₀") else f"l.{p}" for p in params}
+                notes.append(f"{kind}: {params} for {variables} {changed}")
             value = re.sub(NAME, lambda w: w.group(0) if w.start() and value[w.start() - 1] == "." else table.get(w.group(0), w.group(0)), value)
             name = f"{loop.group(1)}-{new}"
             renamed[own] = name

@@ -24,7 +24,7 @@ returns-in-6 c =
 
 pub returns-in_default : goal.returns-in_default
 returns-in_default c =
-    let n = c.in_default-own.rest in
+    let n = c.in_default.in_default-own.rest in
     let a = c.args in
     let e = sym (shown-plain a.k (members a.s) n.0.0.1 n.0.1 n.1) in
     (c.in_order-in_default.ensures.0 ∙ ap list_of e, c.in_order-in_default.ensures.1 ∙ e)

@@ -16,9 +16,9 @@ use native.Mathlib.Omega.{arith}
 use Rattle.display.proofs.in_order.Given as goal
 
 abbrev pub invariant-loop-j : goal.invariant-loop-j
-invariant-loop-j l = (l.j ≤ 23) × (l.initial.j.len ≤ l.j) × (length l.initial.j.numbers ≡ 23)
-    × (listed l.initial.j ++ chosen (members l.s) (shown l.k) (drop l.j (order l.k)) ≡ display_of l.k (members l.s))
-    × (drop l.initial.j.len l.initial.j.numbers ≡ replicate (23 - l.initial.j.len) 0)
+invariant-loop-j l = (l.j ≤ 23) × (l.l.len ≤ l.j) × (length l.l.numbers ≡ 23)
+    × (listed l.l ++ chosen (members l.s) (shown l.k) (drop l.j (order l.k)) ≡ display_of l.k (members l.s))
+    × (drop l.l.len l.l.numbers ≡ replicate (23 - l.l.len) 0)
 
 abbrev pub decreases-loop-j : goal.decreases-loop-j
 decreases-loop-j l = 23 - l.j

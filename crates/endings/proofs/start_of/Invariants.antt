@@ -9,7 +9,7 @@ use Rattle.endings.proofs.Starts.{Passing, passing_first, passing_other, passing
 use Rattle.endings.proofs.start_of.Given as goal
 
 abbrev pub invariant-loop-left : goal.invariant-loop-left
-invariant-loop-left l = Passing l.line l.number l.initial.left l.left
+invariant-loop-left l = Passing l.line l.number l.i l.left
 
 abbrev pub decreases-loop-left : goal.decreases-loop-left
-decreases-loop-left l = length l.line - l.initial.left
+decreases-loop-left l = length l.line - l.i

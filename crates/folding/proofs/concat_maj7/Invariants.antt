@@ -9,7 +9,7 @@ use Rattle.token.proofs.Rows.{rows-room}
 use Rattle.folding.proofs.concat_maj7.Given as goal
 
 abbrev pub invariant-loop-i : goal.invariant-loop-i
-invariant-loop-i l = Joining l.poss (rows l.initial.kinds l.kinds l.initial.poss) (rows l.n l.initial.w l.w) l.initial.i l.i × (length l.n ≡ length l.initial.kinds) × (length l.initial.w ≡ length l.kinds) × (length l.w ≡ length l.initial.poss)
+invariant-loop-i l = Joining l.n (rows l.initial.kinds l.initial.poss l.initial.lens) (rows l.kinds l.poss l.lens) l.w l.i × (length l.kinds ≡ length l.initial.kinds) × (length l.poss ≡ length l.initial.poss) × (length l.lens ≡ length l.initial.lens)
 
 abbrev pub decreases-loop-i : goal.decreases-loop-i
-decreases-loop-i l = l.poss - l.i
+decreases-loop-i l = l.n - l.i

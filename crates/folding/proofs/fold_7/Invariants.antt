@@ -9,7 +9,7 @@ use Rattle.token.proofs.Rows.{rows-room}
 use Rattle.folding.proofs.fold_7.Given as goal
 
 abbrev pub invariant-loop-i : goal.invariant-loop-i
-invariant-loop-i l = Folding l.initial.lens l.lens l.poss (rows l.initial.kinds l.kinds l.initial.poss) (rows l.r l.initial.o l.o) l.initial.i l.i × (length l.r ≡ length l.initial.kinds) × (length l.initial.o ≡ length l.kinds) × (length l.o ≡ length l.initial.poss)
+invariant-loop-i l = Folding l.m l.r l.n (rows l.initial.kinds l.initial.poss l.initial.lens) (rows l.kinds l.poss l.lens) l.o l.i × (length l.kinds ≡ length l.initial.kinds) × (length l.poss ≡ length l.initial.poss) × (length l.lens ≡ length l.initial.lens)
 
 abbrev pub decreases-loop-i : goal.decreases-loop-i
-decreases-loop-i l = l.poss - l.i
+decreases-loop-i l = l.n - l.i

@@ -83,7 +83,7 @@ returns-in-115 c = sym (ap (λ b. place_down b longest_word) c.in-115.is)
 pub returns-in_default : goal.returns-in_default
 unfolding words starts
 returns-in_default c =
-    let r = c.in_default-own.rest in
+    let r = c.in_default.in_default-own.rest in
     let e : starts c.args.b words ≡ false =
     simp (
       ne_eqb _ _ (λ e. r.1 (sym e)),

@@ -10,7 +10,7 @@ use Rattle.token.proofs.Rows.{rows-room}
 use Rattle.lexer.proofs.insert.Given as goal
 
 abbrev pub invariant-loop-j : goal.invariant-loop-j
-invariant-loop-j l = Shifting l.poss l.initial.lens (rows l.initial.kinds l.kinds l.initial.poss) (rows l.pos l.len l.initial.j) l.j × (length l.pos ≡ length l.initial.kinds) × (length l.len ≡ length l.kinds) × (length l.initial.j ≡ length l.initial.poss)
+invariant-loop-j l = Shifting l.place l.n (rows l.initial.kinds l.initial.poss l.initial.lens) (rows l.kinds l.poss l.lens) l.j × (length l.kinds ≡ length l.initial.kinds) × (length l.poss ≡ length l.initial.poss) × (length l.lens ≡ length l.initial.lens)
 
 abbrev pub decreases-loop-j : goal.decreases-loop-j
 decreases-loop-j l = l.j

@@ -10,4 +10,4 @@ pub returns-in-13 : goal.returns-in-13
 returns-in-13 c = search c.in-13.is
 
 pub returns-in_default : goal.returns-in_default
-returns-in_default c = simp (ne_eqb _ _ c.in_default-own.rest.1, ne_eqb _ _ c.in_default-own.rest.0.1)
+returns-in_default c = simp (ne_eqb _ _ c.in_default.in_default-own.rest.1, ne_eqb _ _ c.in_default.in_default-own.rest.0.1)

@@ -13,8 +13,8 @@ use Rattle.token.proofs.Rows.{rows-room}
 use Rattle.lexer.proofs.parse_string.Given as goal
 
 abbrev pub invariant-loop-s : goal.invariant-loop-s
-invariant-loop-s l = Cutting l.text l.poss l.initial.lens l.s (rows l.initial.kinds l.kinds l.initial.poss) (rows l.lens l.end l.initial.s)
-    × (length l.lens ≡ length l.initial.kinds) × (length l.end ≡ length l.kinds) × (length l.initial.s ≡ length l.initial.poss)
+invariant-loop-s l = Cutting l.text l.end l.initial.s l.s (rows l.initial.kinds l.initial.poss l.initial.lens) (rows l.kinds l.poss l.lens)
+    × (length l.kinds ≡ length l.initial.kinds) × (length l.poss ≡ length l.initial.poss) × (length l.lens ≡ length l.initial.lens)
 
 abbrev pub decreases-loop-s : goal.decreases-loop-s
-decreases-loop-s l = l.poss - l.s.at
+decreases-loop-s l = l.end - l.s.at

@@ -38,7 +38,7 @@ returns-in-8313 c = (sym (ap (place_in raised_numerals) c.in-8313.is), omega ari
 
 pub returns-in_default : goal.returns-in_default
 returns-in_default c =
-    let r = c.in_default-own.rest in
+    let r = c.in_default.in_default-own.rest in
     let s = r.0.0.0.0.0 in (
       simp (
         ne_eqb _ _ s.0.0.0.0.1,

@@ -13,8 +13,8 @@ use Rattle.token.proofs.Rows.{rows-room}
 use Rattle.lexer.proofs.scan_text.Given as goal
 
 abbrev pub invariant-loop-s : goal.invariant-loop-s
-invariant-loop-s l = Went l.text l.poss l.s (rows l.initial.kinds l.kinds l.initial.poss) (rows l.initial.lens l.lens l.initial.s)
-    × (length l.initial.lens ≡ length l.initial.kinds) × (length l.lens ≡ length l.kinds) × (length l.initial.s ≡ length l.initial.poss)
+invariant-loop-s l = Went l.text l.initial.s l.s (rows l.initial.kinds l.initial.poss l.initial.lens) (rows l.kinds l.poss l.lens)
+    × (length l.kinds ≡ length l.initial.kinds) × (length l.poss ≡ length l.initial.poss) × (length l.lens ≡ length l.initial.lens)
 
 abbrev pub decreases-loop-s : goal.decreases-loop-s
 decreases-loop-s l = length l.text - l.s.at

@@ -5,7 +5,7 @@ use borrow.Author.Rules.{rules}
 use Rattle.listing.proofs.count.Given as goal
 
 abbrev pub invariant-loop-i : goal.invariant-loop-i
-invariant-loop-i l = (l.i ≤ 23) × (l.initial.i ≤ l.i)
+invariant-loop-i l = (l.i ≤ 23) × (l.n ≤ l.i)
 
 abbrev pub decreases-loop-i : goal.decreases-loop-i
 decreases-loop-i l = 23 - l.i

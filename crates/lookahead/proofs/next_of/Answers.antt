@@ -60,4 +60,4 @@ pub returns-in-Eof : goal.returns-in-Eof
 returns-in-Eof c = sym (ap next_of c.in-Eof.is)
 
 pub returns-in_default : goal.returns-in_default
-returns-in_default c = rest c.args.kind c.in_default-own.keys7
+returns-in_default c = rest c.args.kind c.in_default.in_default-own.keys7

@@ -12,7 +12,7 @@ use Rattle.nophtris.proofs.Bytes.{listed_next}
 use Rattle.nophtris.proofs.list_in.Given as goal
 
 abbrev pub invariant-loop-i : goal.invariant-loop-i
-invariant-loop-i l = (l.i ≤ 23) × (length l.initial.i ≡ 23) × (take l.i l.initial.i ≡ take l.i (drop 28 l.bytes))
+invariant-loop-i l = (l.i ≤ 23) × (length l.numbers ≡ 23) × (take l.i l.numbers ≡ take l.i (drop 28 l.bytes))
 
 abbrev pub decreases-loop-i : goal.decreases-loop-i
 decreases-loop-i l = 23 - l.i

@@ -10,4 +10,4 @@ pub returns-in-255 : goal.returns-in-255
 returns-in-255 c = rw c.in-255.is
 
 pub returns-in_default : goal.returns-in_default
-returns-in_default c = modifier_none c.args.a c.in_default-own.rest.0.1 c.in_default-own.rest.1
+returns-in_default c = modifier_none c.args.a c.in_default.in_default-own.rest.0.1 c.in_default.in_default-own.rest.1

@@ -14,7 +14,7 @@ use Rattle.nophtris.proofs.Bytes.{padded, list_at, list_length, number_of}
 use Rattle.nophtris.proofs.put_list.Given as goal
 
 abbrev pub invariant-loop-i : goal.invariant-loop-i
-invariant-loop-i l = (l.i ≤ 23) × Put l.count l.initial.i (take l.i (padded (listed l.n))) l.initial.out l.m
+invariant-loop-i l = (l.i ≤ 23) × Put l.initial.m l.m (take l.i (padded (listed l.list))) l.initial.out l.out
 
 abbrev pub decreases-loop-i : goal.decreases-loop-i
 decreases-loop-i l = 23 - l.i

@@ -15,7 +15,7 @@ use Rattle.nophtris.proofs.Bytes.{set_at}
 use Rattle.nophtris.proofs.put_set.Given as goal
 
 abbrev pub invariant-loop-i : goal.invariant-loop-i
-invariant-loop-i l = (l.i ≤ 23) × Put l.out l.initial.i (take l.i (set_bytes 23 0 (members l.n))) l.initial.out l.m
+invariant-loop-i l = (l.i ≤ 23) × Put l.n l.m (take l.i (set_bytes 23 0 (members l.set))) l.initial.out l.out
 
 abbrev pub decreases-loop-i : goal.decreases-loop-i
 decreases-loop-i l = 23 - l.i

@@ -15,7 +15,7 @@ use Rattle.writer.specs.State.{Put}
 use Rattle.nophtris.proofs.put_sounding.Given as goal
 
 abbrev pub invariant-loop-n : goal.invariant-loop-n
-invariant-loop-n l = (l.n ≤ 16) × (length l.initial.n ≡ length l.initial.out) × Put 0 l.n (take l.n (keys_bytes (members l.out))) l.initial.out l.initial.n
+invariant-loop-n l = (l.n ≤ 16) × (length l.out ≡ length l.initial.out) × Put 0 l.n (take l.n (keys_bytes (members l.keys))) l.initial.out l.out
 
 abbrev pub decreases-loop-n : goal.decreases-loop-n
 decreases-loop-n l = 16 - l.n

@@ -14,7 +14,7 @@ use Rattle.nophtris.proofs.Bytes.{inserted, none_yet}
 use Rattle.nophtris.proofs.set_in.Given as goal
 
 abbrev pub invariant-loop-i : goal.invariant-loop-i
-invariant-loop-i l = (l.i ≤ 23) × ((k : ℕ) → members l.initial.i k ≡ ltb k l.i && eqb (get_or l.bytes (4 + k) 0) 1)
+invariant-loop-i l = (l.i ≤ 23) × ((k : ℕ) → members l.set k ≡ ltb k l.i && eqb (get_or l.bytes (4 + k) 0) 1)
 
 abbrev pub decreases-loop-i : goal.decreases-loop-i
 decreases-loop-i l = 23 - l.i

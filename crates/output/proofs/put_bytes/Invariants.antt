@@ -11,7 +11,7 @@ use borrow.Author.Rules.{rules}
 use Rattle.output.proofs.put_bytes.Given as goal
 
 abbrev pub invariant-loop-i : goal.invariant-loop-i
-invariant-loop-i l = (l.i ≤ length l.used) × Put (take l.i l.used) l.out l.initial.i l.initial.out l.u
+invariant-loop-i l = (l.i ≤ length l.bytes) × Put (take l.i l.bytes) l.used l.u l.initial.out l.out
 
 abbrev pub decreases-loop-i : goal.decreases-loop-i
-decreases-loop-i l = length l.used - l.i
+decreases-loop-i l = length l.bytes - l.i

@@ -10,7 +10,7 @@ use borrow.Author.Rules.{rules}
 use Rattle.output.proofs.put_spaces.Given as goal
 
 abbrev pub invariant-loop-i : goal.invariant-loop-i
-invariant-loop-i l = (l.i ≤ l.used) × Put (replicate l.i 32) l.out l.initial.i l.initial.out l.u
+invariant-loop-i l = (l.i ≤ l.n) × Put (replicate l.i 32) l.used l.u l.initial.out l.out
 
 abbrev pub decreases-loop-i : goal.decreases-loop-i
-decreases-loop-i l = l.used - l.i
+decreases-loop-i l = l.n - l.i

@@ -7,7 +7,7 @@ use borrow.Author.Rules.{rules}
 use Rattle.parse.proofs.answer_all.Given as goal
 
 abbrev pub invariant-loop-s : goal.invariant-loop-s
-invariant-loop-s l = Inside l.initial.used l.s l.initial.s × (length l.block ≡ length l.initial.out) × (length l.initial.s ≡ length l.out) × (length l.s ≡ length l.initial.line)
+invariant-loop-s l = Inside l.s l.block l.line × (length l.out ≡ length l.initial.out) × (length l.line ≡ length l.initial.line) × (length l.block ≡ length l.initial.block)
 
 abbrev pub decreases-loop-s : goal.decreases-loop-s
-decreases-loop-s l = l.initial.used.left
+decreases-loop-s l = l.s.left

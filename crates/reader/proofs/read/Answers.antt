@@ -9,41 +9,41 @@ use Rattle.reader.proofs.read.Goals as goal
 pub returns-then-errs-lt1028 : goal.returns-then-errs-lt1028
 returns-then-errs-lt1028 c =
     let a = c.args in
-    gave_no_chord a.errs.now (short-list (length a.errs.now) a.text.now c.if-errs-lt1028.taken) refl refl
+    gave_no_chord a.errs.now (short-list (length a.errs.now) a.text.now c.if-errs-lt1028.true) refl refl
     c.no_chord.ensures.0 c.no_chord.ensures.1 c.no_chord.ensures.2
 
 pub returns-then-text-gt256 : goal.returns-then-text-gt256
 returns-then-text-gt256 c =
     let a = c.args in
-    let o = long_list (length a.errs.now) a.text.now c.if-errs-lt1028.left in
-    gave_no_chord a.errs.now (o ∙ long_text a.text.now c.if-text-gt256.taken) refl refl c.no_chord-then-text-gt256.ensures.0
+    let o = long_list (length a.errs.now) a.text.now c.if-errs-lt1028.false in
+    gave_no_chord a.errs.now (o ∙ long_text a.text.now c.if-text-gt256.true) refl refl c.no_chord-then-text-gt256.ensures.0
     c.no_chord-then-text-gt256.ensures.1 c.no_chord-then-text-gt256.ensures.2
 
 pub returns-then-not-well_formed : goal.returns-then-not-well_formed
 returns-then-not-well_formed c =
     let a = c.args in
-    let o = long_list (length a.errs.now) a.text.now c.if-errs-lt1028.left in
-    let u = sym c.well_formed.ensures ∙ no c.well_formed.result c.if-not-well_formed.taken in
-    gave_no_chord a.errs.now (o ∙ not_utf8 a.text.now c.if-text-gt256.left u) refl refl c.no_chord-then-not-well_formed.ensures.0
+    let o = long_list (length a.errs.now) a.text.now c.if-errs-lt1028.false in
+    let u = sym c.well_formed.ensures ∙ no c.well_formed.result c.if-not-well_formed.true-raw in
+    gave_no_chord a.errs.now (o ∙ not_utf8 a.text.now c.if-text-gt256.false u) refl refl c.no_chord-then-not-well_formed.ensures.0
     c.no_chord-then-not-well_formed.ensures.1 c.no_chord-then-not-well_formed.ensures.2
 
 pub returns-then-is_blank : goal.returns-then-is_blank
 returns-then-is_blank c =
     let a = c.args in
-    let o = long_list (length a.errs.now) a.text.now c.if-errs-lt1028.left in
+    let o = long_list (length a.errs.now) a.text.now c.if-errs-lt1028.false in
     let w = c.well_formed in
-    let u = sym w.ensures ∙ yes w.result c.if-not-well_formed.left in
-    let b = sym c.is_blank.ensures ∙ c.if-is_blank.taken in
-    gave_no_chord a.errs.now (o ∙ is-blank a.text.now c.if-text-gt256.left u b) refl refl
+    let u = sym w.ensures ∙ yes w.result c.if-not-well_formed.false-raw in
+    let b = sym c.is_blank.ensures ∙ c.if-is_blank.true in
+    gave_no_chord a.errs.now (o ∙ is-blank a.text.now c.if-text-gt256.false u b) refl refl
     c.no_chord-then-is_blank.ensures.0 c.no_chord-then-is_blank.ensures.1 c.no_chord-then-is_blank.ensures.2
 
 pub returns : goal.returns
 returns c =
     let a = c.args in
     let o = long_list (length a.errs.now) a.text.now
-    c.if-errs-lt1028.left in
+    c.if-errs-lt1028.false in
     let w = c.well_formed in
-    let u = sym w.ensures ∙ yes w.result c.if-not-well_formed.left in
-    let b = sym c.is_blank.ensures ∙ c.if-is_blank.left in
-    gave_same (o ∙ is-text a.text.now c.if-text-gt256.left u b)
+    let u = sym w.ensures ∙ yes w.result c.if-not-well_formed.false-raw in
+    let b = sym c.is_blank.ensures ∙ c.if-is_blank.false in
+    gave_same (o ∙ is-text a.text.now c.if-text-gt256.false u b)
     c.read_text.ensures

@@ -7,7 +7,7 @@ use borrow.Author.Rules.{rules}
 use Rattle.roundtrip.proofs.every_set.Given as goal
 
 abbrev pub invariant-loop-bits : goal.invariant-loop-bits
-invariant-loop-bits l = (l.bits ≤ 8388608) × (length l.initial.c ≡ length l.initial.buffer) × (length l.c ≡ length l.buffer)
+invariant-loop-bits l = (l.bits ≤ 8388608) × (length l.buffer ≡ length l.initial.buffer) × (length l.errs ≡ length l.initial.errs)
 
 abbrev pub decreases-loop-bits : goal.decreases-loop-bits
 decreases-loop-bits l = 8388608 - l.bits

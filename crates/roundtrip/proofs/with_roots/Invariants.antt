@@ -7,7 +7,7 @@ use borrow.Author.Rules.{rules}
 use Rattle.roundtrip.proofs.with_roots.Given as goal
 
 abbrev pub invariant-loop-root : goal.invariant-loop-root
-invariant-loop-root l = (l.root ≤ 21) × (length l.initial.d ≡ length l.initial.buffer) × (length l.d ≡ length l.buffer)
+invariant-loop-root l = (l.root ≤ 21) × (length l.buffer ≡ length l.initial.buffer) × (length l.errs ≡ length l.initial.errs)
 
 abbrev pub decreases-loop-root : goal.decreases-loop-root
 decreases-loop-root l = 21 - l.root

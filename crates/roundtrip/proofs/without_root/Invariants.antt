@@ -7,7 +7,7 @@ use borrow.Author.Rules.{rules}
 use Rattle.roundtrip.proofs.without_root.Given as goal
 
 abbrev pub invariant-loop-bass : goal.invariant-loop-bass
-invariant-loop-bass l = (l.bass ≤ 22) × (length l.initial.d ≡ length l.initial.buffer) × (length l.d ≡ length l.buffer)
+invariant-loop-bass l = (l.bass ≤ 22) × (length l.buffer ≡ length l.initial.buffer) × (length l.errs ≡ length l.initial.errs)
 
 abbrev pub decreases-loop-bass : goal.decreases-loop-bass
 decreases-loop-bass l = 22 - l.bass

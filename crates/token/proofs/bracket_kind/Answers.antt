@@ -51,4 +51,4 @@ pub returns-in-Eof : goal.returns-in-Eof
 returns-in-Eof c = sym (ap bracket_kind c.in-Eof.is)
 
 pub returns-in_default : goal.returns-in_default
-returns-in_default c = rest c.args.kind c.in_default-own.keys4
+returns-in_default c = rest c.args.kind c.in_default.in_default-own.keys4

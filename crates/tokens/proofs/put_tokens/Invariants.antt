@@ -7,7 +7,7 @@ use borrow.Author.Rules.{rules}
 use Rattle.tokens.proofs.put_tokens.Given as goal
 
 abbrev pub invariant-loop-i : goal.invariant-loop-i
-invariant-loop-i l = (l.i ≤ l.lens) × (length l.u ≡ length l.initial.out)
+invariant-loop-i l = (l.i ≤ l.n) × (length l.out ≡ length l.initial.out)
 
 abbrev pub decreases-loop-i : goal.decreases-loop-i
-decreases-loop-i l = l.lens - l.i
+decreases-loop-i l = l.n - l.i

@@ -7,7 +7,7 @@ use borrow.Author.Rules.{rules}
 use Rattle.utf8_vectors.proofs.answer_all.Given as goal
 
 abbrev pub invariant-loop-s : goal.invariant-loop-s
-invariant-loop-s l = Inside l.s l.initial.s l.block × (length l.block ≡ length l.initial.line) × (length l.initial.s ≡ length l.line)
+invariant-loop-s l = Inside l.s l.block l.line × (length l.line ≡ length l.initial.line) × (length l.block ≡ length l.initial.block)
 
 abbrev pub decreases-loop-s : goal.decreases-loop-s
 decreases-loop-s l = l.s.left

@@ -9,7 +9,7 @@ use Rattle.io.proofs.Counting.{prefix_len_of_le}
 use Rattle.utf8_vectors.proofs.read_octets.Given as goal
 
 abbrev pub invariant-loop-n : goal.invariant-loop-n
-invariant-loop-n l = (l.initial.i ≤ length l.n) × (length l.n ≡ length l.initial.bytes) × (l.i ≤ length l.line + 1)
+invariant-loop-n l = (l.n ≤ length l.bytes) × (length l.bytes ≡ length l.initial.bytes) × (l.i ≤ length l.line + 1)
 
 abbrev pub decreases-loop-n : goal.decreases-loop-n
-decreases-loop-n l = length l.initial.bytes - l.initial.i
+decreases-loop-n l = length l.initial.bytes - l.n

@@ -7,7 +7,7 @@ use borrow.Author.Rules.{rules}
 use Rattle.ask.proofs.answer.put_list.Given as goal
 
 abbrev pub invariant-loop-i : goal.invariant-loop-i
-invariant-loop-i l = (l.i ≤ l.list) × (l.list ≤ 23) × (length l.u ≡ length l.initial.out)
+invariant-loop-i l = (l.i ≤ l.n) × (l.n ≤ 23) × (length l.out ≡ length l.initial.out)
 
 abbrev pub decreases-loop-i : goal.decreases-loop-i
-decreases-loop-i l = l.list - l.i
+decreases-loop-i l = l.n - l.i

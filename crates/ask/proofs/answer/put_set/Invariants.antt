@@ -7,7 +7,7 @@ use borrow.Author.Rules.{rules}
 use Rattle.ask.proofs.answer.put_set.Given as goal
 
 abbrev pub invariant-loop-i : goal.invariant-loop-i
-invariant-loop-i l = (l.i ≤ 23) × (length l.u ≡ length l.initial.out)
+invariant-loop-i l = (l.i ≤ 23) × (length l.out ≡ length l.initial.out)
 
 abbrev pub decreases-loop-i : goal.decreases-loop-i
 decreases-loop-i l = 23 - l.i

@@ -7,7 +7,7 @@ use borrow.Author.Rules.{rules}
 use Rattle.ask.proofs.answer.put_shorts.Given as goal
 
 abbrev pub invariant-loop-i : goal.invariant-loop-i
-invariant-loop-i l = (l.i ≤ length l.used) × (length l.u ≡ length l.initial.out)
+invariant-loop-i l = (l.i ≤ length l.numbers) × (length l.out ≡ length l.initial.out)
 
 abbrev pub decreases-loop-i : goal.decreases-loop-i
-decreases-loop-i l = length l.used - l.i
+decreases-loop-i l = length l.numbers - l.i

@@ -6,7 +6,7 @@ use borrow.Author.Rules.{rules}
 use Rattle.ask.proofs.steps.put_song.Given as goal
 
 abbrev pub invariant-loop-left : goal.invariant-loop-left
-invariant-loop-left l = (length l.u ≡ length l.initial.out) × (length l.initial.at ≡ length l.line)
+invariant-loop-left l = (length l.out ≡ length l.initial.out) × (length l.errs ≡ length l.initial.errs)
 
 abbrev pub decreases-loop-left : goal.decreases-loop-left
 decreases-loop-left l = l.left

@@ -12,7 +12,7 @@ use native.Mathlib.Omega.{arith}
 use Rattle.evaluator.proofs.evaluator.apply_pass.Given as goal
 
 abbrev pub invariant-loop-i : goal.invariant-loop-i
-invariant-loop-i l = (l.i ≤ length l.exps) × (fold_left (change_by l.pass) (members l.initial.i) (from l.i l.exps) ≡ fold_left (change_by l.pass) (members l.initial.s) (from 0 l.exps))
+invariant-loop-i l = (l.i ≤ length l.exps) × (fold_left (change_by l.pass) (members l.s) (from l.i l.exps) ≡ fold_left (change_by l.pass) (members l.initial.s) (from 0 l.exps))
 
 abbrev pub decreases-loop-i : goal.decreases-loop-i
 decreases-loop-i l = length l.exps - l.i

@@ -10,7 +10,7 @@ use native.Mathlib.Omega.{arith}
 use Rattle.evaluator.proofs.evaluator.evaluate_expressions.Given as goal
 
 abbrev pub invariant-loop-i : goal.invariant-loop-i
-invariant-loop-i l = (l.i ≤ length l.exps) × Remains (from 0 l.exps) (from l.i l.exps) l.initial.i
+invariant-loop-i l = (l.i ≤ length l.exps) × Remains (from 0 l.exps) (from l.i l.exps) l.d
 
 abbrev pub decreases-loop-i : goal.decreases-loop-i
 decreases-loop-i l = length l.exps - l.i

@@ -10,7 +10,7 @@ use native.Mathlib.Omega.{arith}
 use Rattle.evaluator.proofs.evaluator.first_sus.Given as goal
 
 abbrev pub invariant-loop-i : goal.invariant-loop-i
-invariant-loop-i l = (l.i ≤ length l.exps) × (l.initial.i ≡ first_sus (from l.i l.exps))
+invariant-loop-i l = (l.i ≤ length l.exps) × (l.k ≡ first_sus (from l.i l.exps))
 
 abbrev pub decreases-loop-i : goal.decreases-loop-i
 decreases-loop-i l = l.i

@@ -11,4 +11,4 @@ pub returns-in-Extension : goal.returns-in-Extension
 returns-in-Extension c = rw (c.tall.ensures, c.in-Extension.is)
 
 pub returns-in_default : goal.returns-in_default
-returns-in_default c = rest ext_of 0 (0 ∷ 1 ∷ 2 ∷ 3 ∷ 4 ∷ 5 ∷ 6 ∷ 7 ∷ 8 ∷ 9 ∷ 10 ∷ 12 ∷ 13 ∷ 14 ∷ []) (λ x p n. refl) c.args.e c.in_default-own.keys2
+returns-in_default c = rest ext_of 0 (0 ∷ 1 ∷ 2 ∷ 3 ∷ 4 ∷ 5 ∷ 6 ∷ 7 ∷ 8 ∷ 9 ∷ 10 ∷ 12 ∷ 13 ∷ 14 ∷ []) (λ x p n. refl) c.args.e c.in_default.in_default-own.keys2

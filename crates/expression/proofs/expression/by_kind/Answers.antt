@@ -41,4 +41,4 @@ returns-in_default c =
     let v = c.args.value in
     let p = c.args.pos in
     let named = Power ∷ Bass ∷ Maj ∷ Maj7 ∷ Minor ∷ HalfDim ∷ Dim ∷ Dim7 ∷ Alt ∷ Aug ∷ Sus v ∷ Extension v p ∷ Add v p ∷ Omit v p ∷ [] in
-    ap SlashBass c.from_number.ensures ∙ sym (get_or-eq_default named (SlashBass (note_of v)) {n = k} (above 14 k c.in_default-own.rest))
+    ap SlashBass c.from_number.ensures ∙ sym (get_or-eq_default named (SlashBass (note_of v)) {n = k} (above 14 k c.in_default.in_default-own.rest))

@@ -75,4 +75,4 @@ pub returns-in-22 : goal.returns-in-22
 returns-in-22 c = search c.in-22.is
 
 pub returns-in_default : goal.returns-in_default
-returns-in_default c = no_arm c.args.i 23 (0 ∷ 1 ∷ 2 ∷ 3 ∷ 4 ∷ 5 ∷ 6 ∷ 7 ∷ 8 ∷ 9 ∷ 10 ∷ 11 ∷ 12 ∷ 13 ∷ 14 ∷ 15 ∷ 16 ∷ 17 ∷ 18 ∷ 19 ∷ 20 ∷ 21 ∷ 22 ∷ []) tt c.requires c.in_default-own.rest
+returns-in_default c = no_arm c.args.i 23 (0 ∷ 1 ∷ 2 ∷ 3 ∷ 4 ∷ 5 ∷ 6 ∷ 7 ∷ 8 ∷ 9 ∷ 10 ∷ 11 ∷ 12 ∷ 13 ∷ 14 ∷ 15 ∷ 16 ∷ 17 ∷ 18 ∷ 19 ∷ 20 ∷ 21 ∷ 22 ∷ []) tt c.requires c.in_default.in_default-own.rest

@@ -51,4 +51,4 @@ pub returns-in-14 : goal.returns-in-14
 returns-in-14 c = rw (c.implies-in-14.ensures, c.contains-in-14.ensures, c.is_sharp4.ensures, c.in-14.is)
 
 pub returns-in_default : goal.returns-in_default
-returns-in_default c = no_arm c.args.i 15 (0 ∷ 1 ∷ 2 ∷ 3 ∷ 4 ∷ 5 ∷ 6 ∷ 7 ∷ 8 ∷ 9 ∷ 10 ∷ 11 ∷ 12 ∷ 13 ∷ 14 ∷ []) tt c.requires c.in_default-own.rest
+returns-in_default c = no_arm c.args.i 15 (0 ∷ 1 ∷ 2 ∷ 3 ∷ 4 ∷ 5 ∷ 6 ∷ 7 ∷ 8 ∷ 9 ∷ 10 ∷ 11 ∷ 12 ∷ 13 ∷ 14 ∷ []) tt c.requires c.in_default.in_default-own.rest

@@ -9,8 +9,8 @@ use Rattle.intervals.proofs.IntervalList.count.Goals as goal
 
 pub returns-then-len-lt23 : goal.returns-then-len-lt23
 unfolding listed
-returns-then-len-lt23 c = let h : length c.args.self.numbers ≡ 23 = sized c.args.self.numbers 23 c.well_formed.0.1.1.0.1.0.1 in simp length-take (omega arith)
+returns-then-len-lt23 c = let h : length c.args.self.numbers ≡ 23 = c.well_formed.0.1.1.0.1.0.1 in simp length-take (omega arith)
 
 pub returns-else-len-lt23 : goal.returns-else-len-lt23
 unfolding listed
-returns-else-len-lt23 c = let h : length c.args.self.numbers ≡ 23 = sized c.args.self.numbers 23 c.well_formed.0.1.1.0.1.0.1 in simp length-take (omega arith)
+returns-else-len-lt23 c = let h : length c.args.self.numbers ≡ 23 = c.well_formed.0.1.1.0.1.0.1 in simp length-take (omega arith)

@@ -10,7 +10,7 @@ use Rattle.keys.proofs.Octets.{Word, no_word, word_fits, word_more}
 use Rattle.keys.proofs.bytes.word_in.Given as goal
 
 abbrev pub invariant-loop-at : goal.invariant-loop-at
-invariant-loop-at l = (n : ℕ) × (n + l.at ≡ l.from + 8) × (l.from ≤ l.at) × Word l.bytes l.at n l.initial.at
+invariant-loop-at l = (n : ℕ) × (n + l.at ≡ l.from + 8) × (l.from ≤ l.at) × Word l.bytes l.at n l.w
 
 abbrev pub decreases-loop-at : goal.decreases-loop-at
 decreases-loop-at l = l.at

@@ -16,7 +16,7 @@ use Rattle.keys.specs.Stored.{Wants}
 use Rattle.keys.proofs.wanted.add_list.Given as goal
 
 abbrev pub invariant-loop-i : goal.invariant-loop-i
-invariant-loop-i l = (l.i ≤ l.n) × Wants l.initial.i (display_keys l.from (take l.i (listed l.list)))
+invariant-loop-i l = (l.i ≤ l.n) × Wants l.w (display_keys l.from (take l.i (listed l.list)))
 
 abbrev pub decreases-loop-i : goal.decreases-loop-i
 decreases-loop-i l = l.n - l.i

@@ -9,7 +9,7 @@ use Rattle.midi.proofs.Words.{Progress, finish, kept, less, next_place, room, st
 use Rattle.midi.proofs.messages.put_word.Given as goal
 
 abbrev pub invariant-loop-left : goal.invariant-loop-left
-invariant-loop-left l = Progress l.n l.status l.velocity l.from l.out l.initial.out l.m l.initial.left l.left
+invariant-loop-left l = Progress l.status l.velocity l.from l.bits l.n l.initial.out l.out l.m l.left
 
 abbrev pub decreases-loop-left : goal.decreases-loop-left
 decreases-loop-left l = l.left

@@ -16,6 +16,6 @@ more h e = omega arith
 pub returns-in_default : goal.returns-in_default
 returns-in_default c =
     let n = c.args.number in
-    let r = c.in_default-own.rest in
+    let r = c.in_default.in_default-own.rest in
     let low : 3 ≤ n = more (more (more (zero-le) r.0.0.0.0.0.0.1) r.0.0.0.0.0.1) r.0.0.0.0.1 in
     sym (get_or-eq_default (C ∷ D ∷ E ∷ F ∷ G ∷ A ∷ B ∷ []) C {n = n} (more (more (more (more low r.0.0.0.1) r.0.0.1) r.0.1) r.1))

@@ -64,4 +64,4 @@ pub returns-in-Slash : goal.returns-in-Slash
 returns-in-Slash c = sym (ap reach_of c.in-Slash.is)
 
 pub returns-in_default : goal.returns-in_default
-returns-in_default c = rest c.args.kind c.in_default-own.keys9
+returns-in_default c = rest c.args.kind c.in_default.in_default-own.keys9

@@ -6,7 +6,7 @@ use borrow.Author.Rules.{rules}
 use Rattle.show.proofs.print.put_spaces.Given as goal
 
 abbrev pub invariant-loop-i : goal.invariant-loop-i
-invariant-loop-i l = (i ≤ length l.text)
+invariant-loop-i l = (l.i ≤ length l.text)
 
 abbrev pub decreases-loop-i : goal.decreases-loop-i
-decreases-loop-i l = length l.text - i
+decreases-loop-i l = length l.text - l.i

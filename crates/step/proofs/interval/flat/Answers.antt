@@ -27,4 +27,4 @@ pub returns-in-13 : goal.returns-in-13
 returns-in-13 c = rw c.in-13.is
 
 pub returns-in_default : goal.returns-in_default
-returns-in_default c = none (13 ∷ 9 ∷ 7 ∷ 6 ∷ 5 ∷ 3 ∷ 2 ∷ []) flat tt c.args.number c.in_default-own.rest
+returns-in_default c = none (13 ∷ 9 ∷ 7 ∷ 6 ∷ 5 ∷ 3 ∷ 2 ∷ []) flat tt c.args.number c.in_default.in_default-own.rest

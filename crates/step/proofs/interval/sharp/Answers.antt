@@ -18,4 +18,4 @@ pub returns-in-11 : goal.returns-in-11
 returns-in-11 c = rw c.in-11.is
 
 pub returns-in_default : goal.returns-in_default
-returns-in_default c = none (11 ∷ 9 ∷ 5 ∷ 4 ∷ []) sharp tt c.args.number c.in_default-own.rest
+returns-in_default c = none (11 ∷ 9 ∷ 5 ∷ 4 ∷ []) sharp tt c.args.number c.in_default.in_default-own.rest

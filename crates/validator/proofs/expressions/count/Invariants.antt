@@ -16,7 +16,7 @@ use native.Mathlib.Omega.{arith}
 use Rattle.validator.proofs.expressions.count.Given as goal
 
 abbrev pub invariant-loop-i : goal.invariant-loop-i
-invariant-loop-i l = (l.i ≤ length l.exps) × ((p : ℕ) → p < 15 → times_of (map exp_of l.exps) p ≡ counts_of l.initial.i p + times_of (exps_from l.exps l.i) p) × ((p : ℕ) → p < 15 → counts_of l.initial.i p ≤ l.i)
+invariant-loop-i l = (l.i ≤ length l.exps) × ((p : ℕ) → p < 15 → times_of (map exp_of l.exps) p ≡ counts_of l.counts p + times_of (exps_from l.exps l.i) p) × ((p : ℕ) → p < 15 → counts_of l.counts p ≤ l.i)
 
 abbrev pub decreases-loop-i : goal.decreases-loop-i
 decreases-loop-i l = length l.exps - l.i

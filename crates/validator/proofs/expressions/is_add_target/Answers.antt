@@ -44,4 +44,4 @@ pub returns-in-22 : goal.returns-in-22
 returns-in-22 c = search c.in-22.is
 
 pub returns-in_default : goal.returns-in_default
-returns-in_default c = not-elem c.args.interval add_targets c.in_default-own.rest
+returns-in_default c = not-elem c.args.interval add_targets c.in_default.in_default-own.rest

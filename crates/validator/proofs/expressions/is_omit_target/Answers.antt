@@ -11,4 +11,4 @@ pub returns-in-8 : goal.returns-in-8
 returns-in-8 c = search c.in-8.is
 
 pub returns-in_default : goal.returns-in_default
-returns-in_default c = not-elem c.args.interval omit_targets c.in_default-own.rest
+returns-in_default c = not-elem c.args.interval omit_targets c.in_default.in_default-own.rest

@@ -15,7 +15,7 @@ use native.Mathlib.Omega.{arith}
 use Rattle.validator.proofs.extensions.first_fault.Given as goal
 
 abbrev pub invariant-loop-i : goal.invariant-loop-i
-invariant-loop-i l = (l.i ≤ length l.exps) × (extension_fault empty (map exp_of l.exps) ≡ extension_fault (members l.initial.i) (exps_from l.exps l.i))
+invariant-loop-i l = (l.i ≤ length l.exps) × (extension_fault empty (map exp_of l.exps) ≡ extension_fault (members l.seen) (exps_from l.exps l.i))
 
 abbrev pub decreases-loop-i : goal.decreases-loop-i
 decreases-loop-i l = length l.exps - l.i

@@ -23,4 +23,4 @@ pub returns-in-14 : goal.returns-in-14
 returns-in-14 c = search c.in-14.is
 
 pub returns-in_default : goal.returns-in_default
-returns-in_default c = not-elem c.args.interval bad_extensions c.in_default-own.rest
+returns-in_default c = not-elem c.args.interval bad_extensions c.in_default.in_default-own.rest

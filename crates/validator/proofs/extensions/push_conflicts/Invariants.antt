@@ -13,7 +13,7 @@ use native.Mathlib.Omega.{arith}
 use Rattle.validator.proofs.extensions.push_conflicts.Given as goal
 
 abbrev pub invariant-loop-i : goal.invariant-loop-i
-invariant-loop-i l = Wrote l.errs l.initial.i (all_from (conflict_at (members l.set)) l.i 0) l.initial.errs l.m × (l.i ≤ 8) × (l.initial.i ≤ l.errs + l.i) × (length l.m ≡ length l.initial.errs)
+invariant-loop-i l = Wrote l.n l.m (all_from (conflict_at (members l.set)) l.i 0) l.initial.errs l.errs × (l.i ≤ 8) × (l.m ≤ l.n + l.i) × (length l.errs ≡ length l.initial.errs)
 
 abbrev pub decreases-loop-i : goal.decreases-loop-i
 decreases-loop-i l = 8 - l.i

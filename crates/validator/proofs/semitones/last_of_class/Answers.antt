@@ -17,7 +17,7 @@ use native.Mathlib.Omega.{arith}
 use Rattle.validator.proofs.semitones.last_of_class.Goals as goal
 
 pub loop-i-init : goal.loop-i-init
-loop-i-init c = (omega arith, sized c.new-lasts.result.of 12 c.new-lasts.type-inv.1.1.0.1.0.1, λ k h. c.new-lasts.ensures k h ∙ last-start (members c.args.set) k)
+loop-i-init c = (omega arith, c.new-lasts.type_inv.1.1.0.1.0.1, λ k h. c.new-lasts.ensures k h ∙ last-start (members c.args.set) k)
 
 pub loop-i-preserved-then-not-contains : goal.loop-i-preserved-then-not-contains
 loop-i-preserved-then-not-contains c =

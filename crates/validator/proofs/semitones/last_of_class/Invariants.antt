@@ -17,7 +17,7 @@ use native.Mathlib.Omega.{arith}
 use Rattle.validator.proofs.semitones.last_of_class.Given as goal
 
 abbrev pub invariant-loop-i : goal.invariant-loop-i
-invariant-loop-i l = (l.i ≤ 23) × (length l.initial.i.of ≡ 12) × ((k : ℕ) → k < 12 → lasts_of l.initial.i k ≡ last_below l.i (members l.set) k)
+invariant-loop-i l = (l.i ≤ 23) × (length l.lasts.of ≡ 12) × ((k : ℕ) → k < 12 → lasts_of l.lasts k ≡ last_below l.i (members l.set) k)
 
 abbrev pub decreases-loop-i : goal.decreases-loop-i
 decreases-loop-i l = 23 - l.i

@@ -14,8 +14,8 @@ use native.Mathlib.Omega.{arith}
 use Rattle.validator.proofs.semitones.validate_semitones.Given as goal
 
 abbrev pub invariant-loop-c : goal.invariant-loop-c
-invariant-loop-c l = Wrote l.errs l.initial.c (all_from (neighbours_in (lasts_of l.n)) l.c 0) l.initial.errs l.m × (l.c ≤ 12) × (l.initial.c ≤ l.errs + l.c)
-    × (length l.m ≡ length l.initial.errs)
+invariant-loop-c l = Wrote l.n l.m (all_from (neighbours_in (lasts_of l.lasts)) l.c 0) l.initial.errs l.errs × (l.c ≤ 12) × (l.m ≤ l.n + l.c)
+    × (length l.errs ≡ length l.initial.errs)
 
 abbrev pub decreases-loop-c : goal.decreases-loop-c
 decreases-loop-c l = 12 - l.c

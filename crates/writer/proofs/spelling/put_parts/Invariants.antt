@@ -11,7 +11,7 @@ use Rattle.writer.specs.State.{Put}
 use Rattle.writer.proofs.spelling.put_parts.Given as goal
 
 abbrev pub invariant-loop-i : goal.invariant-loop-i
-invariant-loop-i l = (l.i ≤ 23) × Put l.buffer l.initial.i (so_far (members l.n) l.set l.i) l.initial.buffer l.m
+invariant-loop-i l = (l.i ≤ 23) × Put l.n l.m (so_far (members l.set) l.k l.i) l.initial.buffer l.buffer
 
 abbrev pub decreases-loop-i : goal.decreases-loop-i
 decreases-loop-i l = 23 - l.i

@@ -13,7 +13,7 @@ use Rattle.writer.specs.State.{Put, text_at}
 use Rattle.writer.proofs.spelling.put_text.Given as goal
 
 abbrev pub invariant-loop-j : goal.invariant-loop-j
-invariant-loop-j l = (l.j ≤ l.i) × Put l.buffer l.initial.j (take l.j (text_at l.n)) l.initial.buffer l.m
+invariant-loop-j l = (l.j ≤ l.len) × Put l.n l.m (take l.j (text_at l.i)) l.initial.buffer l.buffer
 
 abbrev pub decreases-loop-j : goal.decreases-loop-j
-decreases-loop-j l = l.i - l.j
+decreases-loop-j l = l.len - l.j

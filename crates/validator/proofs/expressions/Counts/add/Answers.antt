@@ -18,4 +18,4 @@ overflow_add-c c = omega (arith, c.requires c.if-i-ge15.false)
 
 pub returns : goal.returns
 unfolding counts_of
-returns c = let n : length c.args.self.of ≡ 15 = sized c.args.self.of 15 c.well_formed.0.1.1.0.1.0.1 in λ q h. more-at c.args.self.of c.args.p (omega (arith, n, c.if-i-ge15.false)) q
+returns c = let n : length c.args.self.of ≡ 15 = c.well_formed.0.1.1.0.1.0.1 in λ q h. more-at c.args.self.of c.args.p (omega (arith, n, c.if-i-ge15.false)) q
