@@ -1,12 +1,12 @@
 -- At each place the bar looked for is bar `left` of what is left of the line (`Passing`).
 -- Assumes nothing.
-use mathlib.Core.Logic.{⊎_elim}
 use mathlib.Core.Path.{sym, subst}
 use Prim.Native.Nat.{◌-◌, ◌+◌}
 use native.Mathlib.Omega.{arith}
 use lib.ListN.{length}
 use Rattle.endings.proofs.Starts.{Passing, passing_first, passing_other, passing_stroke, passed_all, passed_to}
 use Rattle.endings.proofs.start_of.Goals as goal
+use Rattle.endings.proofs.start_of.Goals.{then-line-i-eq-STROKE, else-line-i-eq-STROKE}
 
 pub loop-left-init : goal.loop-left-init
 loop-left-init c = passing_first c.args.line.now c.args.number
@@ -24,10 +24,10 @@ loop-left-preserved c =
     let left = c.loop-left.left in
     let inside = c.if-line-i.false in
     let some = c.loop-left-test.true in
-    ⊎_elim
-    (λ w. subst (Passing l n (i + 1)) (sym w.1) (passing_stroke l n i left some inside c.loop-left.invariant w.0.taken))
-    (λ w. subst (Passing l n (i + 1)) (sym w.1) (passing_other l n i left some inside c.loop-left.invariant w.0.left))
-    c.if-line-i-eq-STROKE.branch
+    elim c.if-line-i-eq-STROKE.branch [
+      | then-line-i-eq-STROKE w ↦ subst (Passing l n (i + 1)) (sym w.left-is) (passing_stroke l n i left some inside c.loop-left.invariant w.if-line-i-eq-STROKE.true)
+      | else-line-i-eq-STROKE w ↦ subst (Passing l n (i + 1)) (sym w.left-is) (passing_other l n i left some inside c.loop-left.invariant w.if-line-i-eq-STROKE.false)
+    ]
 
 pub returns : goal.returns
 returns c =

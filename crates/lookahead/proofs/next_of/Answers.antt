@@ -1,5 +1,6 @@
 -- Each arm is the definition at that type, and so is the last at the other types.
 -- Assumes nothing.
+use borrow.Enum.Refused.{opened}
 use mathlib.Core.List.{List, [], ◌∷◌}
 use mathlib.Core.Path.{◌≡◌, refl, sym, ap}
 use Prim.Native.Nat.{ℕ}
@@ -60,4 +61,4 @@ pub returns-in-Eof : goal.returns-in-Eof
 returns-in-Eof c = sym (ap next_of c.in-Eof.is)
 
 pub returns-in_default : goal.returns-in_default
-returns-in_default c = rest c.args.kind c.in_default.in_default-own.keys7
+returns-in_default c = rest c.args.kind (opened c.in_default.in_default-own.keys7)

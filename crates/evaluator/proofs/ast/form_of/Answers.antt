@@ -1,5 +1,6 @@
 -- Each arm is the definition at that expression, and so is the last at the others.
 -- Assumes nothing.
+use borrow.Enum.Refused.{opened}
 use mathlib.Core.List.{[], ◌∷◌}
 use mathlib.Core.Path.{refl}
 use borrow.Author.Rules.{rules}
@@ -24,4 +25,4 @@ pub returns-in-Dim7 : goal.returns-in-Dim7
 returns-in-Dim7 c = search c.in-Dim7.is
 
 pub returns-in_default : goal.returns-in_default
-returns-in_default c = rest form_of form.Major (1 ∷ 2 ∷ 3 ∷ 8 ∷ 9 ∷ 10 ∷ 11 ∷ 12 ∷ 13 ∷ 14 ∷ []) (λ x p n. refl) c.args.e c.in_default.in_default-own.keys6
+returns-in_default c = rest form_of form.Major (1 ∷ 2 ∷ 3 ∷ 8 ∷ 9 ∷ 10 ∷ 11 ∷ 12 ∷ 13 ∷ 14 ∷ []) (λ x p n. refl) c.args.e (opened c.in_default.in_default-own.keys6)

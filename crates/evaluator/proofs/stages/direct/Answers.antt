@@ -1,5 +1,6 @@
 -- Each arm is the definition at that expression, and so is the last at the others.
 -- Assumes nothing.
+use borrow.Enum.Refused.{opened}
 use mathlib.Core.List.{[], ◌∷◌}
 use mathlib.Core.Path.{refl}
 use borrow.Author.Rules.{rules}
@@ -23,4 +24,4 @@ returns-in-Extension c = rw (c.insert_direct.ensures, c.in-Extension.is)
 pub returns-in_default : goal.returns-in_default
 returns-in_default c =
     let s = members c.args.s in
-    rest (direct s) s (0 ∷ 2 ∷ 4 ∷ 5 ∷ 6 ∷ 7 ∷ 9 ∷ 10 ∷ 12 ∷ 13 ∷ 14 ∷ []) (λ x p n. refl) c.args.e c.in_default.in_default-own.keys5
+    rest (direct s) s (0 ∷ 2 ∷ 4 ∷ 5 ∷ 6 ∷ 7 ∷ 9 ∷ 10 ∷ 12 ∷ 13 ∷ 14 ∷ []) (λ x p n. refl) c.args.e (opened c.in_default.in_default-own.keys5)

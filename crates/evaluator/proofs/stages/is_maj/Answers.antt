@@ -1,5 +1,6 @@
 -- Each arm is the definition at that expression, and so is the last at the others.
 -- Assumes nothing.
+use borrow.Enum.Refused.{opened}
 use mathlib.Core.Bool.{false}
 use mathlib.Core.List.{[], ◌∷◌}
 use mathlib.Core.Path.{refl}
@@ -15,4 +16,4 @@ pub returns-in-Maj7 : goal.returns-in-Maj7
 returns-in-Maj7 c = search c.in-Maj7.is
 
 pub returns-in_default : goal.returns-in_default
-returns-in_default c = rest is_maj false (0 ∷ 1 ∷ 4 ∷ 5 ∷ 6 ∷ 7 ∷ 8 ∷ 9 ∷ 10 ∷ 11 ∷ 12 ∷ 13 ∷ 14 ∷ []) (λ x p n. refl) c.args.e c.in_default.in_default-own.keys3
+returns-in_default c = rest is_maj false (0 ∷ 1 ∷ 4 ∷ 5 ∷ 6 ∷ 7 ∷ 8 ∷ 9 ∷ 10 ∷ 11 ∷ 12 ∷ 13 ∷ 14 ∷ []) (λ x p n. refl) c.args.e (opened c.in_default.in_default-own.keys3)

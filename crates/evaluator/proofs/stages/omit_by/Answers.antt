@@ -1,5 +1,6 @@
 -- Each arm is the definition at that expression, and so is the last at the others.
 -- Assumes nothing.
+use borrow.Enum.Refused.{opened}
 use mathlib.Core.List.{[], ◌∷◌}
 use mathlib.Core.Path.{refl}
 use borrow.Author.Rules.{rules}
@@ -20,4 +21,4 @@ returns-in-Omit c = rw (c.omit-in-Omit.ensures, c.in-Omit.is)
 pub returns-in_default : goal.returns-in_default
 returns-in_default c =
     let s = members c.args.s in
-    rest (omit_by s) s (0 ∷ 1 ∷ 2 ∷ 3 ∷ 4 ∷ 5 ∷ 6 ∷ 7 ∷ 9 ∷ 11 ∷ 12 ∷ 14 ∷ []) (λ x p n. refl) c.args.e c.in_default.in_default-own.keys4
+    rest (omit_by s) s (0 ∷ 1 ∷ 2 ∷ 3 ∷ 4 ∷ 5 ∷ 6 ∷ 7 ∷ 9 ∷ 11 ∷ 12 ∷ 14 ∷ []) (λ x p n. refl) c.args.e (opened c.in_default.in_default-own.keys4)

@@ -1,4 +1,5 @@
 -- Each arm is the definition at that type, and so is the last at the other types.
+use borrow.Enum.Refused.{opened}
 use mathlib.Core.List.{List, [], ◌∷◌}
 use mathlib.Core.Path.{◌≡◌, refl, sym, ap}
 use Prim.Native.Nat.{ℕ}
@@ -64,4 +65,4 @@ pub returns-in-Slash : goal.returns-in-Slash
 returns-in-Slash c = sym (ap reach_of c.in-Slash.is)
 
 pub returns-in_default : goal.returns-in_default
-returns-in_default c = rest c.args.kind c.in_default.in_default-own.keys9
+returns-in_default c = rest c.args.kind (opened c.in_default.in_default-own.keys9)
