@@ -40,7 +40,7 @@ class Names:
         for old, new in entry["needs"]:
             self.needs.setdefault(need_key(old), new)
         self.order = [new for _, new in entry["needs"]]
-        self.steps, self.inner, self.fields, self.arm_paths, self.own = {}, {}, {}, [], {}
+        self.steps, self.inner, self.fields, self.arm_paths, self.own, self.told = {}, {}, {}, [], {}, {}
         for i, place in enumerate(entry["places"]):
             old_place, _, (old, new), _, renames = place
             if old and norm(old) not in self.steps:
@@ -53,6 +53,8 @@ class Names:
             arm = entry["arms"][i]
             if arm:
                 for field, step, path in arm[2]:
+                    if step != "match":
+                        self.told.setdefault(norm(step), arm[0])
                     if path:
                         self.arm_paths.append((norm(step), path, arm[0], field))
                     elif field.endswith("-own"):
@@ -92,6 +94,8 @@ class Names:
         key = norm(head)
         if key == "match" and rest and rest[0] in self.own:
             return ".".join([root, self.own[rest[0]], *rest])
+        if rest == ["given"] and key in self.told:
+            return ".".join([root, self.told[key], "is"])
         for step, path, arm, field in self.arm_paths:
             if step == key and rest[: len(path)] == path:
                 return ".".join([root, arm, field, *rest[len(path):]])

@@ -10,8 +10,7 @@ pub returns-then-kinds-j : goal.returns-then-kinds-j
 returns-then-kinds-j c = record { within = search rules; found = λ _. c.if-kinds-j.true; after = c.loop-i.invariant.1 }
 
 pub loop-i-preserved : goal.loop-i-preserved
-loop-i-preserved c =
-    (
+loop-i-preserved c = (
   search rules,
   λ j h b e. elim (dec_le c.loop-i.i j) [
     | yes g ↦ c.loop-i.invariant.1 j g b e

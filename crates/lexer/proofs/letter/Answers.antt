@@ -9,6 +9,9 @@ use Rattle.lexer.proofs.Runs.{word_fits}
 use Rattle.lexer.proofs.Words.{letter-is}
 use Rattle.lexer.proofs.letter.Goals as goal
 
+pub bounds-words-j : goal.bounds-words-j
+bounds-words-j c = omega (arith, (word_fits c.args.i c.requires.1).short, c.requires.2)
+
 pub returns : goal.returns
 returns c =
     let a = c.args in

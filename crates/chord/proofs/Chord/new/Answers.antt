@@ -11,6 +11,6 @@ use Rattle.chord.proofs.Chord.new.Goals as goal
 pub returns : goal.returns
 returns c =
     let n = c.new in
-    let s : n.result ≡ set_of empty = sym (set-whole n.result (omega (arith, n.type-inv))) ∙ ap set_of n.ensures in
+    let s : n.result ≡ set_of empty = sym (set-whole n.result (omega (arith, n.type_inv))) ∙ ap set_of n.ensures in
     let l = c.new-2.ensures in
     (rw (s, l.0), rw (n.ensures, l.1))

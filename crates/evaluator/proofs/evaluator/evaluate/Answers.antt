@@ -14,6 +14,6 @@ returns c =
       bass = c.evaluate_expressions-d.ensures.bass;
       set = set;
       display = rw (← set, ← c.first_sus.ensures) c.display.ensures.1;
-      whole = sym (set-whole r (omega (arith, c.eval_set-set.type-inv))) ∙ ap set_of set;
+      whole = sym (set-whole r (omega (arith, c.eval_set-set.type_inv))) ∙ ap set_of set;
       list = rw (← set, ← c.first_sus.ensures) c.display.ensures.0;
     }
