@@ -29,7 +29,7 @@ room_down z h = record { sfits = omega (arith, (near z).1) }
 
 module _ (z : ℤ) (h : mag z < 1000) where
   kept : to_z w16 (of_z w16 z) ≡ z
-  kept = to_z-of_z (record { sfits = omega arith })
+  kept = to_z-of_z {w = w16} (record { sfits = omega arith })
 
   pub opens_fits : SFits w16 (to_z w16 (of_z w16 z) +ℤ pos 1)
   opens_fits = rw kept (room_up z h)

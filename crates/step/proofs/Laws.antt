@@ -47,7 +47,7 @@ entry_most (x ∷ xs) (suc n) = omega (arith, entry_most xs n)
 -- that of each row is 23, so an interval that is not 23 is below it
 below : (m : RootModifier) (n : ℕ) → eqb (interval_of m n) 23 ≡ false → interval_of m n < 23
 below m n e =
-    let t : largest (intervals_by m) ≡ 23 = elim m [ Natural ↦ refl | Sharp ↦ refl | Flat ↦ refl ] in
+    let t : largest (intervals_by m) ≡ 23 = elim m as (λ k. largest (intervals_by k) ≡ 23) [ Natural ↦ refl | Sharp ↦ refl | Flat ↦ refl ] in
     let l : interval_of m n ≤ 23 = choice (λ (i : ℕ). i ≤ 23) (ltb n 14) (omega (arith, entry_most (intervals_by m) n)) (omega arith) in
     omega (arith, eqb-false (interval_of m n) 23 e)
 
@@ -57,10 +57,10 @@ not_allowed i e = ((or-false (eqb i 5) (eqb i 6)).0 ((or-false (eqb i 2) _).0 ((
 
 -- a group or a comma begins no sus
 group_calm : (c : Context) (k : GroupKind) (b : Bool) → sus_bit (start_group c k b) ≤ sus_bit c
-group_calm c k b = elim b [ true ↦ omega arith | false ↦ omega arith ]
+group_calm c k b = elim b as (λ x. sus_bit (start_group c k x) ≤ sus_bit c) [ true ↦ omega arith | false ↦ omega arith ]
 
 comma_calm : (c : Context) → sus_bit (on_comma c) ≤ sus_bit c
-comma_calm c = elim c [ context.None ↦ omega arith | context.Sus ↦ omega arith | context.Group g ↦ omega arith ]
+comma_calm c = elim c as (λ x. sus_bit (on_comma x) ≤ sus_bit x) [ context.None ↦ omega arith | context.Sus ↦ omega arith | context.Group g ↦ omega arith ]
 
 module _ (h : Here) where
   -- an interval below 23, by the state

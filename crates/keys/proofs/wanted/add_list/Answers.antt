@@ -18,7 +18,7 @@ use Rattle.keys.proofs.wanted.add_list.Goals as goal
 pub loop-i-init : goal.loop-i-init
 loop-i-init c =
     let a = c.args in
-    (omega arith, want_as (display-start a.from (listed a.t2)) (want_none refl c.new.ensures))
+    (omega arith, want_as (display-start a.from (listed a.list)) (want_none refl c.new.ensures))
 
 pub bounds-list-i : goal.bounds-list-i
 bounds-list-i c = omega (arith, c.count-n.ensures.1)
@@ -32,7 +32,7 @@ overflow_add-i c = omega (arith, c.count-n.ensures.1)
 pub loop-i-preserved : goal.loop-i-preserved
 loop-i-preserved c =
     let a = c.args in
-    let l = a.t2 in
+    let l = a.list in
     let i = c.loop-i.i in
     let n = c.count-n in
     let h : i < length (listed l) = omega (arith, n.ensures.0, c.loop-i-test.true) in
@@ -47,5 +47,5 @@ pub returns : goal.returns
 returns c =
     let a = c.args in
     let n = c.count-n in
-    let h : length (listed a.t2) ≤ c.loop-i.i = omega (arith, n.ensures.0, c.loop-i-test.false) in
-    want_as (display-all a.from (listed a.t2) c.loop-i.i h) c.loop-i.invariant.1
+    let h : length (listed a.list) ≤ c.loop-i.i = omega (arith, n.ensures.0, c.loop-i-test.false) in
+    want_as (display-all a.from (listed a.list) c.loop-i.i h) c.loop-i.invariant.1
