@@ -251,6 +251,7 @@ def convert(proof, names, module, keep_all):
         if not keep_all and not unfolding and re.fullmatch(r"search (rules|\(rules\))|omega arith|tt|refl", value.strip()):
             continue
         roots = {params[0]} if params else set()
+        more = [p for p in params[1:] if p != "κs"]
         changed_ = True
         while changed_:
             changed_ = False
@@ -278,7 +279,7 @@ def convert(proof, names, module, keep_all):
         gap = "\n" if value.startswith("\n") or value.startswith(" ") and "\n" in value else ""
         if "\n" in value.strip() and not value.startswith("\n"):
             value = "\n    " + value.lstrip()
-        answers.append("\n".join([*comment, f"pub {new} : goal.{new}", *unfolding, f"{new} c = {value}".replace("= \n", "=\n")]))
+        answers.append("\n".join([*comment, f"pub {new} : goal.{new}", *unfolding, f"{new} {' '.join(['c', *more])} = {value}".replace("= \n", "=\n")]))
 
     def again(body):
         return re.sub(r"(?<![\w.'\-])" + "(" + "|".join(sorted(map(re.escape, renamed), key=len, reverse=True)) + ")" + r"(?![\w'\-])",

@@ -81,7 +81,7 @@ did_effect st e {n} {m} {es} {es'} {xs} {xs'} s g ready h fits =
 
 -- the count is far from the ends of its type
 pub count-back : (d : ℤ) → mag d < 1000 → to_z w16 (of_z w16 d) ≡ d
-count-back d h = to_z-of_z (record { sfits = omega arith })
+count-back d h = to_z-of_z {w = w16} (record { sfits = omega arith })
 
 -- the effect of a token fits the state
 fits_small : {h : Here} {e : Effect} {st : State} → Small h e → h.context ≡ st.context → h.count ≡ st.count → Fits st e

@@ -21,13 +21,13 @@ returns-then-not-is_some c =
 pub returns-then-not-is_within : goal.returns-then-not-is_within
 returns-then-not-is_within c =
     let some = c.is_some in
-    let test = c.is_Within in
+    let test = c.is_within in
     rw (← some.ensures, not-false some.result c.if-not-is_some.false-raw, ← test.ensures, not-true test.result c.if-not-is_within.true-raw)
 
 pub returns : goal.returns
 returns c =
     let some = c.is_some in
-    let test = c.is_Within in
+    let test = c.is_within in
     rw (
       c.is_realizable_by.ensures,
       c.kind_in.ensures,

@@ -14,7 +14,7 @@ pub push_exp-m-requires : goal.push_exp-m-requires
 push_exp-m-requires c = let h = ap gains_count c.in-Two.is in omega (arith, h, c.requires)
 
 pub push_exp-requires-in-Two : goal.push_exp-requires-in-Two
-push_exp-requires-in-Two c = let h = ap gains_count c.in-Two.is in omega (arith, h, c.requires, c.push_exp-m.ensures.count, c.push_exp-m.auto.0)
+push_exp-requires-in-Two c = let h = ap gains_count c.in-Two.is in omega (arith, h, c.requires, c.push_exp-m.ensures.count, c.push_exp-m.auto.exps)
 
 pub returns-in-None : goal.returns-in-None
 returns-in-None c = rw (ap gains_of c.in-None.is) (gained-none _ _)

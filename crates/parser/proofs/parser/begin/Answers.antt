@@ -11,6 +11,6 @@ overflow_add-result c =
     record { fits = omega (arith, f.taken) }
 
 pub returns : goal.returns
-returns c =
+returns c xs =
     let a = c.args in
     begun a.root a.next xs c.root_effect-e.ensures c.push_error.ensures
