@@ -40,11 +40,12 @@ class Names:
         for old, new in entry["needs"]:
             self.needs.setdefault(need_key(old), new)
         self.order = [new for _, new in entry["needs"]]
-        self.steps, self.inner, self.fields, self.arm_paths, self.own, self.told = {}, {}, {}, [], {}, {}
+        self.steps, self.inner, self.fields, self.arm_paths, self.own, self.told, self.callee = {}, {}, {}, [], {}, {}, {}
         for i, place in enumerate(entry["places"]):
             old_place, _, (old, new), _, renames = place
             if old and norm(old) not in self.steps:
                 self.steps[norm(old)] = new
+                self.callee[norm(old)] = place[3]
             if old:
                 self.inner.setdefault(norm(old), {}).update(map(tuple, renames))
                 clauses = entry["clauses"][i]
@@ -71,6 +72,16 @@ class Names:
         self.loops = {}
         for (pair, variables), changed in zip(entry["loops"], entry["changed"] or [None] * len(entry["loops"])):
             self.loops[norm(pair[0])] = (pair[1], variables, changed)
+
+    def named_parameter(self, callee, rest):
+        """`new.1.1.0` is what the third parameter holds afterwards."""
+        i = 1
+        while i < len(rest) and rest[i] == "1":
+            i += 1
+        params = self.entry["params"].get(callee, [])
+        if i < len(rest) and rest[i] == "0" and i - 1 < len(params):
+            return [rest[0], params[i - 1], *rest[i + 1:]]
+        return rest
 
     def path(self, parts, root):
         """A path of the old record in the new one."""
@@ -110,8 +121,8 @@ class Names:
                 i = int(rest[1])
                 if i < len(fields):
                     rest[1] = fields[i]
-            if len(rest) > 1 and rest[0] == "new":
-                pass
+            if len(rest) > 1 and rest[0] in ("new", "auto"):
+                rest = self.named_parameter(self.callee.get(key), rest)
             return ".".join([root, self.steps[key], *rest])
         return ".".join([root, key if key in ("well_formed", "type_inv") else head, *rest])
 

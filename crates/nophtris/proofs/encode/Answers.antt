@@ -44,4 +44,4 @@ returns c =
     let a = c.args in
     let w = put_then c.put_note-a.ensures (put_then c.put_note-b.ensures (put_then c.put_set-c.ensures c.put_list.ensures)) in
     let e : c.put_list.result ≡ 51 = omega (arith, w.count, chord-length (four_of a.chord)) in
-    subst (λ (r : ℕ). Put 0 r (chord_bytes (four_of a.chord)) a.out.now c.put_list.new.0) e w
+    subst (λ (r : ℕ). Put 0 r (chord_bytes (four_of a.chord)) a.out.now c.put_list.new.out) e w

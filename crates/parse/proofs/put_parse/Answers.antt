@@ -35,14 +35,14 @@ parse-ast-requires c =
     let scan = c.scan_tokens-n in
     let text = c.args.text.now in
     let low = c.requires in
-    let scanned = scan.ensures.0 in
-    let tokens = take scan.result (rows scan.new.1.0 scan.new.1.1.0 scan.new.1.1.1.0) in
+    let scanned = scan.ensures.scanned in
+    let tokens = take scan.result (rows scan.new.kinds scan.new.poss scan.new.lens) in
     let wide = pre_process-ranged (length text + 1) (length text) tokens scanned.ranged in
     let l = length text in
     let wider = ranged_wider (l + 1) (l + l) 1000 1000 (pre_process tokens) (omega (arith, low)) (omega (arith, low)) wide in
-    let few = folded.ensures.0.0 in (
-      tokens_first folded.result folded.new.0 folded.new.1.0 folded.new.1.1.0 (omega (arith, few, scanned.few, low))
-          (omega (arith, few, scanned.few, low, folded.auto)) (subst (Ranged 1000 1000) (sym folded.ensures.0.1) wider),
+    let few = folded.ensures.upper_bound.0 in (
+      tokens_first folded.result folded.new.kinds folded.new.poss folded.new.lens (omega (arith, few, scanned.few, low))
+          (omega (arith, few, scanned.few, low, folded.auto)) (subst (Ranged 1000 1000) (sym folded.ensures.upper_bound.1) wider),
       record { errs = search rules; exps = search rules },
     )
 

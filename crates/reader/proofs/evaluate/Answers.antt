@@ -17,7 +17,7 @@ returns-then-n-gt0 c =
     let a = c.args in
     let l = map exp_of a.exps.now in
     let v = c.validate-n in
-    let w = subst (λ (q : Set). Wrote 0 v.result (validation_of l q) a.errs.now v.new.1.1.0) c.evaluate-e.ensures.set v.ensures.0 in
+    let w = subst (λ (q : Set). Wrote 0 v.result (validation_of l q) a.errs.now v.new.errs) c.evaluate-e.ensures.set v.ensures.0 in
     gave_errors (validation_of l (eval_set l)) 5 _ v.result c.if-n-gt0.true (omega (arith, w.count)) w.list w.rest
     (ap number_of c.no_chord.ensures.0) (ap count_of c.no_chord.ensures.0) c.no_chord.ensures.1 c.no_chord.ensures.2
 
@@ -27,7 +27,7 @@ returns c =
     let l = map exp_of a.exps.now in
     let e = c.evaluate-e.ensures in
     let v = c.validate-n in
-    let w = subst (λ (q : Set). Wrote 0 v.result (validation_of l q) a.errs.now v.new.1.1.0) e.set v.ensures.0 in
+    let w = subst (λ (q : Set). Wrote 0 v.result (validation_of l q) a.errs.now v.new.errs) e.set v.ensures.0 in
     let z : v.result ≡ 0 = omega (arith, c.if-n-gt0.false) in
     gave_none (validation_of l (eval_set l)) 5 (accepted a.root l) (omega (arith, z, w.count))
     (record {

@@ -20,7 +20,7 @@ returns-then-n-gt0 c =
     let p = c.parse-ast in
     let n = p.result.errors in
     gave_errors (parse_of ts).errs 4 _ n c.if-n-gt0.true
-    (counted n (parse_of ts).errs p.new.1.1.1.0 (omega (arith, p.ensures.few, p.auto, c.requires.1)) p.ensures.errs)
+    (counted n (parse_of ts).errs p.new.errs (omega (arith, p.ensures.few, p.auto, c.requires.1)) p.ensures.errs)
     p.ensures.errs p.ensures.rest (ap number_of c.no_chord.ensures.0) (ap count_of c.no_chord.ensures.0)
     c.no_chord.ensures.1 c.no_chord.ensures.2
 
@@ -32,8 +32,8 @@ evaluate-requires c =
     let a = c.args in
     let ts = rows a.kinds.now a.poss.now a.lens.now in
     let p = c.parse-ast in
-    let xs = take p.result.exps p.new.1.1.1.1.0 in
-    let k = length-take p.result.exps p.new.1.1.1.1.0 in
+    let xs = take p.result.exps p.new.exps in
+    let k = length-take p.result.exps p.new.exps in
     (sounds-all xs (subst (All Sound) (sym p.ensures.exps) (expressions_sound ts)), omega (arith, p.ensures.fewer, k), omega (arith, c.requires.1, p.auto))
 
 pub returns : goal.returns
@@ -43,7 +43,7 @@ returns c =
     let p = c.parse-ast in
     let n = p.result.errors in
     let z : n ≡ 0 = omega (arith, c.if-n-gt0.false) in
-    let k = counted n (parse_of ts).errs p.new.1.1.1.0 (omega (arith, p.ensures.few, p.auto, c.requires.1)) p.ensures.errs in
+    let k = counted n (parse_of ts).errs p.new.errs (omega (arith, p.ensures.few, p.auto, c.requires.1)) p.ensures.errs in
     let u = untouched n z p.ensures.rest in
     let g = c.evaluate.ensures in
     gave_none (parse_of ts).errs 4 (validated (root_of ts) (parse_of ts).exps) (omega (arith, z, k))

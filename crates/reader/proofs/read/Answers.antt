@@ -23,7 +23,7 @@ pub returns-then-not-well_formed : goal.returns-then-not-well_formed
 returns-then-not-well_formed c =
     let a = c.args in
     let o = long_list (length a.errs.now) a.text.now c.if-errs-lt1028.false in
-    let u = sym c.well_formed.ensures ∙ no c.well_formed.result c.if-not-well_formed.true-raw in
+    let u = sym c.well_formed-2.ensures ∙ no c.well_formed-2.result c.if-not-well_formed.true-raw in
     gave_no_chord a.errs.now (o ∙ not_utf8 a.text.now c.if-text-gt256.false u) refl refl c.no_chord-then-not-well_formed.ensures.0
     c.no_chord-then-not-well_formed.ensures.1 c.no_chord-then-not-well_formed.ensures.2
 
@@ -31,7 +31,7 @@ pub returns-then-is_blank : goal.returns-then-is_blank
 returns-then-is_blank c =
     let a = c.args in
     let o = long_list (length a.errs.now) a.text.now c.if-errs-lt1028.false in
-    let w = c.well_formed in
+    let w = c.well_formed-2 in
     let u = sym w.ensures ∙ yes w.result c.if-not-well_formed.false-raw in
     let b = sym c.is_blank.ensures ∙ c.if-is_blank.true in
     gave_no_chord a.errs.now (o ∙ is-blank a.text.now c.if-text-gt256.false u b) refl refl
@@ -42,7 +42,7 @@ returns c =
     let a = c.args in
     let o = long_list (length a.errs.now) a.text.now
     c.if-errs-lt1028.false in
-    let w = c.well_formed in
+    let w = c.well_formed-2 in
     let u = sym w.ensures ∙ yes w.result c.if-not-well_formed.false-raw in
     let b = sym c.is_blank.ensures ∙ c.if-is_blank.false in
     gave_same (o ∙ is-text a.text.now c.if-text-gt256.false u b)

@@ -21,11 +21,11 @@ slice_bounds-parse-end-3 c =
     sym (length-take-le _ _ (omega arith))
 
 pub parse-requires : goal.parse-requires
-parse-requires c = let t = c.tokenize-e in (tokens_first t.result t.new.1.0 t.new.1.1.0 t.new.1.1.1.0 t.ensures.few t.ensures.room t.ensures.ranged, c.requires.1)
+parse-requires c = let t = c.tokenize-e in (tokens_first t.result t.new.kinds t.new.poss t.new.lens t.ensures.few t.ensures.room t.ensures.ranged, c.requires.1)
 
 pub returns : goal.returns
 returns c =
     let a = c.args in
     let t = c.tokenize-e in
-    let e = rows_take t.result t.new.1.0 t.new.1.1.0 t.new.1.1.1.0 ∙ t.ensures.list in
+    let e = rows_take t.result t.new.kinds t.new.poss t.new.lens ∙ t.ensures.list in
     as_tokens e c.parse.ensures

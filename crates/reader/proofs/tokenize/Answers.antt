@@ -16,7 +16,7 @@ pub pre_process-requires : goal.pre_process-requires
 pre_process-requires c =
     let scan = c.scan_tokens-n in
     let p = c.requires in
-    (omega (arith, p.0, p.1, scan.ensures.0.few, scan.auto), λ j h. le_trans (scanned_short scan.ensures.0 j h) p.0)
+    (omega (arith, p.0, p.1, scan.ensures.scanned.few, scan.auto), λ j h. le_trans (scanned_short scan.ensures.scanned j h) p.0)
 
 pub returns : goal.returns
 returns c =
@@ -24,11 +24,11 @@ returns c =
     let scan = c.scan_tokens-n in
     let fold = c.pre_process in
     let text = a.text.now in
-    let ts = take scan.result (rows scan.new.1.0 scan.new.1.1.0 scan.new.1.1.1.0) in
-    let wide = pre_process-ranged (length text + 1) (length text) ts scan.ensures.0.ranged in
+    let ts = take scan.result (rows scan.new.kinds scan.new.poss scan.new.lens) in
+    let wide = pre_process-ranged (length text + 1) (length text) ts scan.ensures.scanned.ranged in
     record {
-      few = omega (arith, fold.ensures.0.0, scan.ensures.0.few, c.requires.0);
-      room = omega (arith, fold.ensures.0.0, scan.ensures.0.few, c.requires.1, fold.auto, scan.auto);
-      list = fold.ensures.0.1 ∙ ap pre_process scan.ensures.0.written.list;
-      ranged = subst (Ranged 1000 1000) (sym fold.ensures.0.1) (ranged_wider (length text + 1) (length text + length text) 1000 1000 (pre_process ts) (omega (arith, c.requires.0)) (omega (arith, c.requires.0)) wide);
+      few = omega (arith, fold.ensures.upper_bound.0, scan.ensures.scanned.few, c.requires.0);
+      room = omega (arith, fold.ensures.upper_bound.0, scan.ensures.scanned.few, c.requires.1, fold.auto, scan.auto);
+      list = fold.ensures.upper_bound.1 ∙ ap pre_process scan.ensures.scanned.written.list;
+      ranged = subst (Ranged 1000 1000) (sym fold.ensures.upper_bound.1) (ranged_wider (length text + 1) (length text + length text) 1000 1000 (pre_process ts) (omega (arith, c.requires.0)) (omega (arith, c.requires.0)) wide);
     }
