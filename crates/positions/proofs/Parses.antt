@@ -134,7 +134,9 @@ module _ (f g : ℕ → ℕ) where
     walk_same k x none = record { skip = refl; count = x.count; context = x.context; errs = x.errs; exps = x.exps }
     walk_same {stk} {stk'} {s} {r} k x (more {a = t} {b = u} {l = ts} {m = us} h rest) =
         let n = s.skip in
-        walk_same (subst (λ m. Places (stack_turn n stk t) (stack_turn m stk' u)) x.skip (stack_same k x h rest n))
+        walk_same {stk = stack_turn n stk t} {stk' = stack_turn r.skip stk' u} {s = token_turn itself n stk s t ts}
+        {r = token_turn itself r.skip stk' r u us} {ts = ts} {us = us}
+        (subst (λ m. Places (stack_turn n stk t) (stack_turn m stk' u)) x.skip (stack_same k x h rest n))
         (subst (λ m. SameParsing (token_turn itself n stk s t ts) (token_turn itself m stk' r u us)) x.skip (turn_same k x h rest n)) rest
 
     -- the root's effect is the same on both sides

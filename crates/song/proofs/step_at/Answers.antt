@@ -7,6 +7,12 @@ use Rattle.song.proofs.step_at.Goals as goal
 pub slice_bounds-read-count : goal.slice_bounds-read-count
 slice_bounds-read-count c = (found_within _ _ _ c.place_at-place.ensures).0
 
+pub slice_bounds-read-start : goal.slice_bounds-read-start
+slice_bounds-read-start c = (found_within _ _ _ c.place_at-place.ensures).0
+
+pub slice_bounds-read-end : goal.slice_bounds-read-end
+slice_bounds-read-end c = (found_within _ _ _ c.place_at-place.ensures).1
+
 pub returns-in-TooLong : goal.returns-in-TooLong
 returns-in-TooLong c = too_long _ _ _ c.place_at-place.ensures _ _ c.in-TooLong.is c.without_bar.ensures
 
