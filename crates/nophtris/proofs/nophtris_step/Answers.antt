@@ -11,6 +11,12 @@ overflow_sub-size c = (found_within _ _ _ c.place_at-place.ensures).0
 pub slice_bounds-nophtris_read-count : goal.slice_bounds-nophtris_read-count
 slice_bounds-nophtris_read-count c = (found_within _ _ _ c.place_at-place.ensures).0
 
+pub slice_bounds-nophtris_read-start : goal.slice_bounds-nophtris_read-start
+slice_bounds-nophtris_read-start c = (found_within _ _ _ c.place_at-place.ensures).0
+
+pub slice_bounds-nophtris_read-end : goal.slice_bounds-nophtris_read-end
+slice_bounds-nophtris_read-end c = (found_within _ _ _ c.place_at-place.ensures).1
+
 pub returns-in-TooLong : goal.returns-in-TooLong
 returns-in-TooLong c = gave_eight _ _ _ c.place_at-place.ensures c.in-TooLong.is
 
