@@ -210,7 +210,7 @@ all_alike cs t =
     pairs_append (tokens_alike (back cs) 0 0 cs t a 0 [] [] none)
     (more (record { kind = refl; len = refl; pos = back-behind cs 1; next = λ h. absurd h }) none)
 
-mapped-is : {ts us : List Token} (g : ℕ → ℕ) → Alike g ts us → us ≡ map (mapped g) ts
+mapped-is : (g : ℕ → ℕ) {ts us : List Token} → Alike g ts us → us ≡ map (mapped g) ts
 mapped-is g none = refl
 mapped-is g (more {a = t} {b = u} s r) = ap₂ ◌∷◌ (rw (s.kind, s.pos, s.len)) (mapped-is g r)
 
