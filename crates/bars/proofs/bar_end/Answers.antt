@@ -1,10 +1,7 @@
 -- The bar at the position ends where the bar at each place passed ends.
 -- Assumes nothing.
-use mathlib.Core.Path.{◌≡◌, refl, sym, ◌∙◌}
-use Prim.Native.Nat.{◌≤◌, ◌-◌}
+use mathlib.Core.Path.{refl, sym, ◌∙◌}
 use native.Mathlib.Omega.{arith}
-use lib.ListN.{length}
-use Rattle.bars.specs.Bars.{bar_end}
 use Rattle.bars.proofs.Laws.{end-stroke, end_on, end-last}
 use Rattle.bars.proofs.bar_end.Goals as goal
 

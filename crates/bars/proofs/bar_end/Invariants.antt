@@ -1,11 +1,9 @@
 -- The bar at the position ends where the bar at each place passed ends.
 -- Assumes nothing.
-use mathlib.Core.Path.{◌≡◌, refl, sym, ◌∙◌}
+use mathlib.Core.Path.{◌≡◌}
 use Prim.Native.Nat.{◌≤◌, ◌-◌}
-use native.Mathlib.Omega.{arith}
 use lib.ListN.{length}
 use Rattle.bars.specs.Bars.{bar_end}
-use Rattle.bars.proofs.Laws.{end-stroke, end_on, end-last}
 use Rattle.bars.proofs.bar_end.Given as goal
 
 abbrev pub invariant-loop-i : goal.invariant-loop-i

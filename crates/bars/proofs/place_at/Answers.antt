@@ -1,7 +1,6 @@
 -- Each test says which case of `place_at` holds.
 -- Assumes nothing.
 use native.Mathlib.Omega.{arith}
-use borrow.Author.Rules.{rules}
 use borrow.Author.Tests.{lt-ltb, le-ltb}
 use Rattle.bars.specs.Bars.{place_at}
 use Rattle.bars.proofs.Laws.{end-within}

@@ -1,7 +1,6 @@
 -- The spot that is found lies in its line.
 -- Assumes nothing.
 use mathlib.Core.Path.{sym, subst}
-use borrow.Author.Rules.{rules}
 use Rattle.bars.specs.State.{Part}
 use Rattle.endings.specs.State.{Fits, line_of}
 use Rattle.endings.specs.declared.Spot.{Spot}

@@ -1,6 +1,5 @@
 -- Each arm is told which line its answer names.
 -- Assumes nothing.
-use borrow.Author.Rules.{rules}
 use Rattle.endings.proofs.Spots.{fits_in, part_in}
 use Rattle.endings.proofs.part_of.Goals as goal
 

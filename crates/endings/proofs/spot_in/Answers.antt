@@ -1,7 +1,6 @@
 -- From the place on there is a bar, and `place_at_lem` says where it ends.
 -- Assumes nothing.
 use mathlib.Core.Path.{ap, ◌∙◌}
-use borrow.Author.Rules.{rules}
 use Rattle.bars.proofs.Laws.{place_here}
 use Rattle.bars.specs.declared.Place.{Place}
 use Rattle.endings.proofs.spot_in.Goals as goal

@@ -1,7 +1,6 @@
 -- What is found in each line says which case of `spot_of` holds.
 -- Assumes nothing.
 use mathlib.Core.Path.{sym, ◌∙◌}
-use borrow.Author.Rules.{rules}
 use Rattle.endings.proofs.Spots.{found_body, found_ending, found_none, found_within, spot_body_over, spot_ending_over}
 use Rattle.endings.proofs.spot_of.Goals as goal
 

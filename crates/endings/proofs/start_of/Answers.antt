@@ -1,9 +1,8 @@
 -- At each place the bar looked for is bar `left` of what is left of the line (`Passing`).
 -- Assumes nothing.
 use mathlib.Core.Path.{sym, subst}
-use Prim.Native.Nat.{◌-◌, ◌+◌}
+use Prim.Native.Nat.{◌+◌}
 use native.Mathlib.Omega.{arith}
-use lib.ListN.{length}
 use Rattle.endings.proofs.Starts.{Passing, passing_first, passing_other, passing_stroke, passed_all, passed_to}
 use Rattle.endings.proofs.start_of.Goals as goal
 use Rattle.endings.proofs.start_of.Goals.{then-line-i-eq-STROKE, else-line-i-eq-STROKE}

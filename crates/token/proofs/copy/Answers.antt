@@ -3,7 +3,6 @@
 use mathlib.Core.Path.{sym, ap, ◌∙◌}
 use native.Mathlib.Omega.{arith}
 use lib.ListN.{set}
-use borrow.Author.Rules.{rules}
 use Rattle.token.specs.Token.{rows}
 use Rattle.token.proofs.Rows.{rows_at}
 use Rattle.token.proofs.copy.Goals as goal

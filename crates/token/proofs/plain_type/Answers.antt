@@ -4,7 +4,6 @@ use mathlib.Core.Path.{◌≡◌, sym}
 use Prim.Native.Nat.{ℕ, ◌≤◌, ◌<◌, zero-le}
 use native.Mathlib.Omega.{arith}
 use lib.ListN.{get_or-eq_default}
-use borrow.Author.Rules.{rules}
 use Rattle.token.specs.Token.{plain_types}
 use Rattle.token.specs.declared.TokenType.TheVariants.{Illegal}
 use Rattle.token.proofs.plain_type.Goals as goal

@@ -1,6 +1,5 @@
 -- Three stores to the arrays are one store to the list of tokens.
 -- Assumes nothing.
-use borrow.Author.Rules.{rules}
 use Rattle.token.proofs.Rows.{rows-set}
 use Rattle.token.proofs.put.Goals as goal
 

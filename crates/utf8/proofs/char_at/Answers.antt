@@ -4,7 +4,6 @@
 use mathlib.Core.Path.{refl, sym, ap, ◌∙◌}
 use native.Mathlib.Omega.{arith}
 use lib.ListN.{drop_of_length-le}
-use borrow.Author.Rules.{rules}
 use Rattle.utf8.specs.State.{unpacked}
 use Rattle.utf8.specs.Utf8.{char_of}
 use Rattle.utf8.specs.declared.Found.TheVariants.{Char}

@@ -2,7 +2,6 @@
 -- Assumes nothing.
 use mathlib.Core.Path.{sym, ap, ◌∙◌}
 use native.Mathlib.Omega.{arith}
-use borrow.Author.Rules.{rules}
 use Rattle.utf8.specs.State.{length_of}
 use Rattle.utf8.specs.Utf8.{char_of}
 use Rattle.utf8.proofs.Forms.{part-is, part_first}

@@ -2,7 +2,6 @@
 -- Assumes nothing.
 use mathlib.Core.Path.{sym, ◌∙◌}
 use native.Mathlib.Omega.{arith}
-use borrow.Author.Rules.{rules}
 use Rattle.utf8.proofs.Forms.{bad_lead, high_lead}
 use Rattle.utf8.proofs.Packed.{packed_none}
 use Rattle.utf8.proofs.several_bytes.Goals as goal

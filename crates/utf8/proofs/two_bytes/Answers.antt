@@ -4,8 +4,6 @@ use mathlib.Core.Path.{◌≡◌, sym, ◌∙◌}
 use Prim.Native.Nat.{◌+◌, ◌*◌, ◌-◌, ◌<◌}
 use native.Mathlib.Omega.{arith}
 use lib.ListN.{get_or}
-use borrow.Author.Rules.{rules}
-use borrow.Author.Tests.{not-false}
 use Rattle.utf8.proofs.Forms.{unless, bad_second, rejected, two-found, two_value}
 use Rattle.utf8.proofs.Packed.{packed, packed_none}
 use Rattle.utf8.proofs.two_bytes.Goals as goal

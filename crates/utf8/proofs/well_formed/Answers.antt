@@ -6,8 +6,7 @@ use Prim.Native.Nat.{◌-◌, ◌≤◌}
 use native.Mathlib.Omega.{arith}
 use lib.ListN.{length-drop, length, drop, drop_of_length-le}
 use lib.Seq.{drop-drop}
-use borrow.Author.Rules.{rules}
-use Rattle.utf8.specs.Utf8.{well_from, well_formed}
+use Rattle.utf8.specs.Utf8.{well_from}
 use Rattle.utf8.proofs.Laws.{well_step, well_not, found_within}
 use Rattle.utf8.proofs.Packed.{here, nowhere}
 use Rattle.utf8.proofs.well_formed.Goals as goal

@@ -1,15 +1,10 @@
 -- The invariant: what is left of the text decides whether the whole is well formed. A length that is not 0 is a character's (`here`), and
 -- what comes behind it goes on; where it is 0 no character begins (`nowhere`).
 -- Assumes nothing.
-use mathlib.Core.Path.{◌≡◌, refl, sym, ap, ◌∙◌}
+use mathlib.Core.Path.{◌≡◌}
 use Prim.Native.Nat.{◌-◌, ◌≤◌}
-use native.Mathlib.Omega.{arith}
-use lib.ListN.{length-drop, length, drop, drop_of_length-le}
-use lib.Seq.{drop-drop}
-use borrow.Author.Rules.{rules}
+use lib.ListN.{length, drop}
 use Rattle.utf8.specs.Utf8.{well_from, well_formed}
-use Rattle.utf8.proofs.Laws.{well_step, well_not, found_within}
-use Rattle.utf8.proofs.Packed.{here, nowhere}
 use Rattle.utf8.proofs.well_formed.Given as goal
 
 abbrev pub invariant-loop-at : goal.invariant-loop-at

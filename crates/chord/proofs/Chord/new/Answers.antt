@@ -2,7 +2,6 @@
 -- Assumes nothing.
 use mathlib.Core.Path.{◌≡◌, sym, ap, ◌∙◌}
 use native.Mathlib.Omega.{arith}
-use borrow.Author.Rules.{rules}
 use Rattle.intervals.specs.Stored.{set_of}
 use Rattle.intervals.specs.Interval.{empty}
 use Rattle.intervals.proofs.Whole.{set-whole}

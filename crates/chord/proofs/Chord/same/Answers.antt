@@ -1,8 +1,6 @@
 -- The first part of the four that differs refuses; where none does, the four are equal part by part.
 -- Assumes nothing.
 use mathlib.Core.Path.{ap}
-use borrow.Author.Rules.{rules}
-use borrow.Author.Tests.{not-false}
 use Rattle.intervals.proofs.Same.{refused}
 use Rattle.chord.proofs.Chord.same.Goals as goal
 

@@ -1,7 +1,6 @@
 -- Equal numbers are numbers of the same note, and a note has one number.
 -- Assumes nothing.
 use mathlib.Core.Path.{sym, ap, ◌∙◌}
-use borrow.Author.Rules.{rules}
 use borrow.Author.Tests.{eqb-true, eq-eqb}
 use Rattle.note.specs.Note.{note_number, note_of}
 use Rattle.chord.proofs.same.same_note.Goals as goal

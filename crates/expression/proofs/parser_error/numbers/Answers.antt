@@ -1,6 +1,5 @@
 -- Each arm is the definition at that error.
 -- Assumes nothing.
-use borrow.Author.Rules.{rules}
 use Rattle.expression.proofs.parser_error.numbers.Goals as goal
 
 pub returns-in-IllegalToken : goal.returns-in-IllegalToken

@@ -6,7 +6,6 @@ use Prim.Native.Nat.{ℕ, suc, ◌+◌, ◌*◌, ◌≤◌}
 use native.Mathlib.Omega.{arith}
 use lib.ListN.{length, take, drop, set, length-set}
 use lib.Seq.{sets-eq}
-use borrow.Author.Rules.{rules}
 use Rattle.expression.specs.ParserError.{numbers}
 use Rattle.expression.specs.declared.parser_error.Row.{Row}
 use Rattle.expression.proofs.parser_error.store.Goals as goal

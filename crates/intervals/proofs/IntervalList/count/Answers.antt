@@ -4,7 +4,6 @@ use mathlib.Core.Path.{◌≡◌}
 use native.Mathlib.Omega.{arith}
 use lib.ListN.{length, length-take}
 use Rattle.intervals.specs.Stored.{listed}
-use Rattle.intervals.proofs.Store.{sized}
 use Rattle.intervals.proofs.IntervalList.count.Goals as goal
 
 pub returns-then-len-lt23 : goal.returns-then-len-lt23

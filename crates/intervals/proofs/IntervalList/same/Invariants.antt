@@ -1,15 +1,8 @@
 -- The invariant: the numbers passed are the same. Two lists of one length that are the same at each place are the same.
 -- Assumes nothing.
-use mathlib.Core.Path.{◌≡◌, sym, ap, ◌∙◌}
+use mathlib.Core.Path.{◌≡◌}
 use Prim.Native.Nat.{ℕ, ◌≤◌, ◌<◌, ◌-◌}
-use native.Mathlib.Omega.{arith}
-use lib.ListN.{length, get_or}
-use lib.Seq.{ext_get_or}
-use borrow.Author.Count.{below_more, below_none}
-use borrow.Author.Rules.{rules}
-use Rattle.intervals.specs.Stored.{listed}
-use Rattle.intervals.proofs.Same.{yes, no}
-use Rattle.intervals.proofs.Store.{listed_at}
+use lib.ListN.{get_or}
 use Rattle.intervals.proofs.IntervalList.same.Given as goal
 
 abbrev pub invariant-loop-i : goal.invariant-loop-i

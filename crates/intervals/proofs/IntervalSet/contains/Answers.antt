@@ -3,7 +3,6 @@
 use mathlib.Core.Bool.{Bool, ◌&&◌}
 use mathlib.Core.Path.{sym, ap}
 use native.Mathlib.Omega.{arith}
-use borrow.Author.Rules.{rules}
 use borrow.Author.Tests.{lt-ltb}
 use Rattle.intervals.specs.Stored.{bit, members}
 use Rattle.intervals.proofs.IntervalSet.contains.Goals as goal

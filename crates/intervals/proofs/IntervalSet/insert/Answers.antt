@@ -1,6 +1,5 @@
 -- `or` with a power of two adds one digit; `insert-at` says what that is at each member.
 -- Assumes nothing.
-use borrow.Author.Rules.{rules}
 use Rattle.intervals.proofs.Store.{insert-at}
 use Rattle.intervals.specs.Stored.{members}
 use Rattle.intervals.specs.Interval as Interval

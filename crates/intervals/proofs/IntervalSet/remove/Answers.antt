@@ -1,6 +1,5 @@
 -- The digit that the set and a power of two both have is taken out; `remove-at` says what that is at each member.
 -- Assumes nothing.
-use borrow.Author.Rules.{rules}
 use Rattle.intervals.proofs.Store.{remove-at}
 use Rattle.intervals.specs.Stored.{members}
 use Rattle.intervals.specs.Interval as Interval

@@ -1,6 +1,5 @@
 -- What the two calls ensure, the last one first.
 -- Assumes nothing.
-use borrow.Author.Rules.{rules}
 use Rattle.intervals.proofs.IntervalSet.remove_then_add.Goals as goal
 
 pub returns : goal.returns

@@ -1,7 +1,6 @@
 -- Where `target` is a member, it goes and `dest` comes; where it is not, nothing changes.
 -- Assumes nothing.
 use mathlib.Core.Path.{sym, ◌∙◌}
-use borrow.Author.Rules.{rules}
 use Rattle.intervals.proofs.Store.{replace_in, replace_out}
 use Rattle.intervals.proofs.IntervalSet.replace.Goals as goal
 

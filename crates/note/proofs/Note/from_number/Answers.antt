@@ -1,6 +1,5 @@
 -- What the two calls ensure.
 -- Assumes nothing.
-use borrow.Author.Rules.{rules}
 use Rattle.note.proofs.Note.from_number.Goals as goal
 
 pub returns : goal.returns

@@ -2,7 +2,6 @@
 -- Assumes nothing.
 use Prim.Native.Nat.{◌≤◌}
 use native.Mathlib.Omega.{arith}
-use borrow.Author.Rules.{rules}
 use Rattle.intervals.specs.Interval.{semitones}
 use Rattle.intervals.proofs.Semitones.{semitones-order}
 use Rattle.note.proofs.Note.member_class.Goals as goal

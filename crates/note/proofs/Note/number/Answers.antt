@@ -3,7 +3,6 @@
 use mathlib.Core.Path.{◌≡◌, ap, ◌∙◌}
 use Prim.Native.Nat.{◌+◌, ◌*◌}
 use native.Mathlib.Omega.{arith}
-use borrow.Author.Rules.{rules}
 use Rattle.note.specs.Note.{note_of, note_number}
 use Rattle.note.proofs.Numbers.{letter-low, modifier_low, note_back}
 use Rattle.note.proofs.Note.number.Goals as goal

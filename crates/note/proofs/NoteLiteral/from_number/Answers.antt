@@ -5,7 +5,6 @@ use mathlib.Core.Path.{◌≡◌, sym}
 use Prim.Native.Nat.{ℕ, ◌≤◌, ◌<◌, zero-le}
 use native.Mathlib.Omega.{arith}
 use lib.ListN.{get_or-eq_default}
-use borrow.Author.Rules.{rules}
 use Rattle.note.specs.declared.NoteLiteral.TheVariants.{C, D, E, F, G, A, B}
 use Rattle.note.proofs.NoteLiteral.from_number.Goals as goal
 

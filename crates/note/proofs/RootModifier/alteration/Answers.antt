@@ -1,7 +1,6 @@
 -- The variant that the arm tells.
 -- Assumes nothing.
 use mathlib.Core.Path.{sym, ap}
-use borrow.Author.Rules.{rules}
 use Rattle.note.specs.Note.{alteration_of}
 use Rattle.note.proofs.RootModifier.alteration.Goals as goal
 

@@ -4,7 +4,6 @@ use mathlib.Core.List.{[], ◌∷◌}
 use mathlib.Core.Path.{sym}
 use native.Mathlib.Omega.{arith}
 use lib.ListN.{get_or-eq_default}
-use borrow.Author.Rules.{rules}
 use Rattle.note.specs.declared.RootModifier.TheVariants.{Natural, Sharp, Flat}
 use Rattle.note.proofs.RootModifier.from_number.Goals as goal
 

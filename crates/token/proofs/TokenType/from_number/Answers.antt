@@ -1,7 +1,6 @@
 -- The ranges of the numbers, in the order of the definition.
 -- Assumes nothing.
 use mathlib.Core.Path.{◌∙◌}
-use borrow.Author.Rules.{rules}
 use borrow.Author.Tests.{lt-ltb, le-ltb}
 use Rattle.token.specs.Token.{type_of}
 use Rattle.token.proofs.TokenType.from_number.Goals as goal

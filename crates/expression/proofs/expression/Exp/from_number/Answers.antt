@@ -1,6 +1,5 @@
 -- The three parts by division, as the definition has them.
 -- Assumes nothing.
-use borrow.Author.Rules.{rules}
 use Rattle.expression.specs.Expression.{exp_of}
 use Rattle.expression.proofs.expression.Exp.from_number.Goals as goal
 

@@ -1,7 +1,6 @@
 -- Each arm is the definition at that expression, and what was packed is found again.
 -- Assumes nothing.
 use mathlib.Core.Path.{sym, ap, ◌∙◌}
-use borrow.Author.Rules.{rules}
 use Rattle.expression.specs.Expression.{packed, exp_number}
 use Rattle.expression.specs.declared.expression.Exp.TheVariants.{SlashBass}
 use Rattle.expression.proofs.expression.Exp.number.Goals as goal
