@@ -9,8 +9,8 @@ use native.Mathlib.Omega.{arith}
 use lib.Dec.{eqb, ltb}
 use lib.ListN.{get_or, length}
 use lib.Pow.{high, low, pow-add, pow_mono, shr-shr}
-use borrow.Author.Tests.{lt-ltb, le-ltb, ltb-true, ltb-false}
-use Rattle.intervals.proofs.Bits.{bit_above, bit-low}
+use borrow.Author.Tests.{ltb-true, ltb-false}
+use Rattle.intervals.proofs.Bits.{bit-low}
 use Rattle.intervals.proofs.Store.{same_number}
 use Rattle.intervals.proofs.Whole.{digits-at, digits_low}
 use Rattle.intervals.specs.Interval.{Set}

@@ -1,6 +1,6 @@
 -- MIDI out at the C boundary: what `Midi` says of one call, by whether the bytes hold a four; then the calls one after the other.
 -- Assumes nothing.
-use mathlib.Core.Bool.{Bool, true, false, cond}
+use mathlib.Core.Bool.{Bool, cond}
 use mathlib.Core.List.{List, [], ◌∷◌, ◌++◌, map}
 use mathlib.Core.Option.{Option, some}
 use mathlib.Core.Path.{◌≡◌, refl, sym, ap, subst, ◌∙◌}
@@ -21,10 +21,10 @@ use Rattle.nophtris.proofs.Sounding as C-answers
 use Rattle.nophtris.specs.Boundary.{four_in, next_from, next_in, sent_after, sounding_after, values_in}
 use Rattle.nophtris.specs.State.{Midi}
 use Rattle.theorems.proofs.Balance.{Low, Sends, balanced, ends}
-use Rattle.theorems.proofs.Midi.{Asked, Went, again, holding, kept, lacking, never_10, never_11, no_keys, numbered, refused-whole, said, sent-bytes, sent-whole, silenced, wanted-low, went}
+use Rattle.theorems.proofs.Midi.{Asked, Went, again, holding, kept, lacking, never_10, never_11, numbered, refused-whole, said, sent-bytes, sent-whole, silenced, wanted-low, went}
 use Rattle.theorems.proofs.Writings.{decided_in}
 use Rattle.theorems.specs.CMidi.{Call, Calls, MidiAgain, MidiBalance, MidiBase, MidiNumbered, MidiRoom, MidiSent, MidiSilence, MidiUntouched, said_by, silence}
-use Rattle.theorems.specs.Midi.{Numbered, Said, Sent, keys_held}
+use Rattle.theorems.specs.Midi.{Numbered, Sent, keys_held}
 use Rattle.theorems.specs.Song.{Run, call, done}
 
 -- the questions that were put to what the bytes hold

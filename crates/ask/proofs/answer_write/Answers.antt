@@ -3,7 +3,6 @@
 use mathlib.Core.Path.{sym}
 use native.Mathlib.Omega.{arith}
 use lib.Seq.{length-take-le}
-use borrow.Author.Rules.{rules}
 use Rattle.ask.proofs.answer_write.Goals as goal
 
 pub slice_bounds-put_written-end : goal.slice_bounds-put_written-end

@@ -1,7 +1,6 @@
 -- In each arm k is the number that the arm names; at any other number the display list is that of no sus.
 use mathlib.Core.Path.{sym, ap, ◌∙◌}
 use Prim.Native.Nat.{ℕ}
-use borrow.Author.Rules.{rules}
 use Rattle.intervals.specs.Stored.{list_of, members}
 use Rattle.display.specs.Display.{display_of}
 use Rattle.display.proofs.Order.{shown-plain}

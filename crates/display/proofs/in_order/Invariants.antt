@@ -1,18 +1,11 @@
 -- The invariant: what is in the list and what the rest of the order gives are the display list, and behind what is in it are zeros. A turn
 -- leaves the list as it is, or is one store behind its numbers, by whether the interval is a member.
-use Prim.Native.Nat.{◌+◌, ◌-◌, ◌≤◌, ◌<◌, suc, ℕ}
-use Rattle.intervals.specs.Stored.{list_of, listed, members}
-use Rattle.intervals.proofs.Whole.{list-whole}
-use Rattle.display.proofs.Order.{append-nil, display_turn, order-length, zeros_behind}
+use Prim.Native.Nat.{◌+◌, ◌-◌, ◌≤◌}
+use Rattle.intervals.specs.Stored.{listed, members}
 use Rattle.display.specs.Display.{chosen, display_of, order, shown}
-use borrow.Author.Rules.{rules}
-use borrow.Author.Tests.{not-true, not-false}
-use lib.ListN.{drop, drop_of_length-le, length, length-set, replicate, set, take}
-use lib.Seq.{take-suc-set}
-use mathlib.Core.Bool.{cond}
-use mathlib.Core.List.{List, [], ◌∷◌, ◌++◌}
-use mathlib.Core.Path.{◌∙◌, ◌≡◌, ap, refl, sym}
-use native.Mathlib.Omega.{arith}
+use lib.ListN.{drop, length, replicate}
+use mathlib.Core.List.{◌++◌}
+use mathlib.Core.Path.{◌≡◌}
 use Rattle.display.proofs.in_order.Given as goal
 
 abbrev pub invariant-loop-j : goal.invariant-loop-j

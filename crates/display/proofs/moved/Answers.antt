@@ -1,5 +1,4 @@
 -- Each return by its tests.
-use borrow.Author.Rules.{rules}
 use borrow.Author.Tests.{eq-eqb, le-leb, lt-leb, ne_eqb}
 use Rattle.display.proofs.moved.Goals as goal
 

@@ -1,6 +1,5 @@
 -- By the sus; each order is held to its definition by computation.
 use Rattle.display.proofs.Order.{at_flat2, at_plain, at_second, at_sharp4}
-use borrow.Author.Rules.{rules}
 use mathlib.Core.Path.{◌∙◌}
 use native.Mathlib.Omega.{arith}
 use Rattle.display.proofs.order_at.Goals as goal

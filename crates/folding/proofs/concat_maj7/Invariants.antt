@@ -1,11 +1,8 @@
-use mathlib.Core.Path.{◌≡◌, refl}
+use mathlib.Core.Path.{◌≡◌}
 use Prim.Native.Nat.{◌-◌}
-use native.Mathlib.Omega.{arith}
 use lib.ListN.{length}
-use borrow.Author.Rules.{rules}
 use Rattle.token.specs.Token.{rows}
-use Rattle.folding.proofs.Wholes.{Joining, joining_start, joining_step, joining_end, still_short}
-use Rattle.token.proofs.Rows.{rows-room}
+use Rattle.folding.proofs.Wholes.{Joining}
 use Rattle.folding.proofs.concat_maj7.Given as goal
 
 abbrev pub invariant-loop-i : goal.invariant-loop-i

@@ -1,10 +1,7 @@
-use mathlib.Core.Path.{◌≡◌, refl}
+use mathlib.Core.Path.{refl}
 use Prim.Native.Nat.{◌-◌}
 use native.Mathlib.Omega.{arith}
-use lib.ListN.{length}
-use borrow.Author.Rules.{rules}
-use Rattle.token.specs.Token.{rows}
-use Rattle.folding.proofs.Turns.{Folding, folding_start, folding_step, folding_end}
+use Rattle.folding.proofs.Turns.{folding_start, folding_step, folding_end}
 use Rattle.token.proofs.Rows.{rows-room}
 use Rattle.folding.proofs.fold_7.Goals as goal
 

@@ -1,11 +1,8 @@
-use mathlib.Core.Path.{◌≡◌, refl}
+use mathlib.Core.Path.{◌≡◌}
 use Prim.Native.Nat.{◌-◌}
-use native.Mathlib.Omega.{arith}
 use lib.ListN.{length}
-use borrow.Author.Rules.{rules}
 use Rattle.token.specs.Token.{rows}
-use Rattle.folding.proofs.Turns.{Folding, folding_start, folding_step, folding_end}
-use Rattle.token.proofs.Rows.{rows-room}
+use Rattle.folding.proofs.Turns.{Folding}
 use Rattle.folding.proofs.fold_7.Given as goal
 
 abbrev pub invariant-loop-i : goal.invariant-loop-i

@@ -1,7 +1,6 @@
 use Prim.Native.Nat.{◌+◌, ◌≤◌}
 use native.Mathlib.Omega.{arith}
 use lib.ListN.{length}
-use borrow.Author.Rules.{rules}
 use Rattle.token.specs.Token.{rows}
 use Rattle.folding.proofs.Places.{joined-last, latest_some, joined_latest}
 use Rattle.token.proofs.Rows.{rows-room}

@@ -2,7 +2,6 @@ use mathlib.Core.Path.{sym, ap, ap₂, ◌∙◌}
 use Prim.Native.Nat.{ℕ}
 use native.Mathlib.Omega.{arith}
 use lib.ListN.{set, get_or}
-use borrow.Author.Rules.{rules}
 use Rattle.token.specs.Token.{Token, token, rows}
 use Rattle.folding.specs.Folding.{paired}
 use Rattle.token.proofs.Rows.{rows_at}

@@ -1,6 +1,5 @@
 -- By whether a 7 waits.
 -- Assumes nothing.
-use borrow.Author.Rules.{rules}
 use borrow.Author.Tests.{ne_eqb}
 use Rattle.folding.proofs.partner_came.Goals as goal
 

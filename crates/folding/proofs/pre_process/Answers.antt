@@ -3,7 +3,6 @@
 use mathlib.Core.Path.{refl, sym}
 use native.Mathlib.Omega.{arith}
 use lib.ListN.{take}
-use borrow.Author.Rules.{rules}
 use Rattle.token.specs.Token.{rows}
 use Rattle.folding.proofs.Calm.{no_seven}
 use Rattle.folding.proofs.Places.{latest_none}

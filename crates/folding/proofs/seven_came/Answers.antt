@@ -1,6 +1,5 @@
 -- By whether a partner waits.
 -- Assumes nothing.
-use borrow.Author.Rules.{rules}
 use borrow.Author.Tests.{ne_eqb}
 use Rattle.folding.proofs.seven_came.Goals as goal
 

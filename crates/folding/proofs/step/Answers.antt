@@ -6,7 +6,6 @@ use Prim.Native.Nat.{ℕ, ◌+◌, ◌≤◌}
 use native.Mathlib.Omega.{arith}
 use lib.ListN.{length, get_or, take}
 use lib.Seq.{length-take-le}
-use borrow.Author.Rules.{rules}
 use Rattle.token.specs.Token.{rows, Room, at}
 use Rattle.folding.specs.Folding.{count, seven}
 use Rattle.folding.proofs.Counts.{count_le}

@@ -2,7 +2,6 @@ use mathlib.Core.Path.{◌≡◌, sym, ap, ◌∙◌}
 use Prim.Native.Nat.{◌+◌, ◌<◌}
 use native.Mathlib.Omega.{arith}
 use lib.ListN.{get_or}
-use borrow.Author.Rules.{rules}
 use Rattle.token.specs.Token.{Token, rows, at}
 use Rattle.folding.proofs.Wholes.{next_there, took-whole, took-kept}
 use Rattle.token.proofs.Rows.{rows_at}

@@ -2,7 +2,6 @@
 -- Assumes nothing.
 use mathlib.Core.Path.{ap}
 use native.Mathlib.Omega.{arith}
-use borrow.Author.Rules.{rules}
 use borrow.Author.Tests.{not-true, not-false}
 use Rattle.lexer.proofs.Steps.{place-low, did_nothing, did_insert}
 use Rattle.lexer.proofs.emit.Goals as goal

@@ -3,7 +3,6 @@
 use mathlib.Core.Path.{sym, ap, ◌∙◌}
 use native.Mathlib.Omega.{arith}
 use lib.ListN.{drop, length-drop}
-use borrow.Author.Rules.{rules}
 use Rattle.lexer.specs.Lexer.{head_by, head_of}
 use Rattle.lexer.proofs.Heads.{no_letter}
 use Rattle.utf8.proofs.Laws.{found_within}

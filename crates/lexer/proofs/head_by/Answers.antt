@@ -2,7 +2,6 @@
 -- Assumes nothing.
 use mathlib.Core.Path.{ap₂, sym, ◌∙◌}
 use lib.Seq.{drop-drop}
-use borrow.Author.Rules.{rules}
 use borrow.Author.Tests.{eq-eqb, ne_eqb}
 use Rattle.utf8.specs.Utf8.{char_of}
 use Rattle.lexer.specs.Lexer.{number_by}

@@ -1,11 +1,8 @@
 -- The invariant: the tokens from j on stand one place further.
 -- Assumes nothing.
-use mathlib.Core.Path.{◌≡◌, refl}
+use mathlib.Core.Path.{refl}
 use native.Mathlib.Omega.{arith}
-use lib.ListN.{length}
-use borrow.Author.Rules.{rules}
-use Rattle.token.specs.Token.{rows}
-use Rattle.lexer.proofs.Shifts.{Shifting, shifting_start, shifting_step, shifting_end}
+use Rattle.lexer.proofs.Shifts.{shifting_start, shifting_step, shifting_end}
 use Rattle.token.proofs.Rows.{rows-room}
 use Rattle.lexer.proofs.insert.Goals as goal
 

@@ -1,12 +1,9 @@
 -- The invariant: the tokens from j on stand one place further.
 -- Assumes nothing.
-use mathlib.Core.Path.{◌≡◌, refl}
-use native.Mathlib.Omega.{arith}
+use mathlib.Core.Path.{◌≡◌}
 use lib.ListN.{length}
-use borrow.Author.Rules.{rules}
 use Rattle.token.specs.Token.{rows}
-use Rattle.lexer.proofs.Shifts.{Shifting, shifting_start, shifting_step, shifting_end}
-use Rattle.token.proofs.Rows.{rows-room}
+use Rattle.lexer.proofs.Shifts.{Shifting}
 use Rattle.lexer.proofs.insert.Given as goal
 
 abbrev pub invariant-loop-j : goal.invariant-loop-j

@@ -1,7 +1,6 @@
 -- The smaller of the two; the constant is the length of the longest word, by computation.
 -- Assumes nothing.
 use native.Mathlib.Omega.{arith}
-use borrow.Author.Rules.{rules}
 use Rattle.lexer.proofs.Chains.{longest_is}
 use Rattle.lexer.proofs.last_end.Goals as goal
 

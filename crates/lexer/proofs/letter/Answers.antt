@@ -4,7 +4,6 @@ use mathlib.Core.List.{[]}
 use mathlib.Core.Path.{ap, ◌∙◌}
 use native.Mathlib.Omega.{arith}
 use lib.ListN.{get_or}
-use borrow.Author.Rules.{rules}
 use Rattle.lexer.proofs.Runs.{word_fits}
 use Rattle.lexer.proofs.Words.{letter-is}
 use Rattle.lexer.proofs.letter.Goals as goal

@@ -1,13 +1,12 @@
 -- The invariant: the word stands there if its letters from j on stand behind the j that were compared. The first is known.
 -- Assumes nothing.
 use mathlib.Core.Path.{◌≡◌, sym, ap, ◌∙◌}
-use Prim.Native.Nat.{ℕ, ◌+◌, ◌-◌, ◌≤◌}
+use Prim.Native.Nat.{ℕ, ◌+◌, ◌-◌}
 use native.Mathlib.Nat.{add-zero}
 use native.Mathlib.Omega.{arith}
 use lib.ListN.{get_or, drop}
 use Rattle.utf8.specs.Utf8.{begins}
 use Rattle.lexer.specs.State.{word_at}
-use Rattle.lexer.specs.Words.{words}
 use Rattle.lexer.proofs.Runs.{word_fits}
 use Rattle.lexer.proofs.Words.{begins-same, begins_other, begins-all}
 use Rattle.lexer.proofs.matches.Goals as goal

@@ -3,7 +3,6 @@
 use mathlib.Core.Path.{sym, ap, ◌∙◌}
 use native.Mathlib.Omega.{arith}
 use lib.ListN.{drop, length-drop}
-use borrow.Author.Rules.{rules}
 use Rattle.lexer.specs.Lexer.{number_by, number_head}
 use Rattle.utf8.proofs.Laws.{found_within}
 use Rattle.lexer.proofs.number_by.Goals as goal

@@ -1,6 +1,5 @@
 -- Two digits, else one, else none, as in the definition.
 -- Assumes nothing.
-use borrow.Author.Rules.{rules}
 use Rattle.lexer.proofs.number_head.Goals as goal
 
 pub returns-then-is_two : goal.returns-then-is_two

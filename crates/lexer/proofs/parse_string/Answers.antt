@@ -1,14 +1,10 @@
 -- The invariant is `Cutting`: the tokens so far and those to come are all, and the rest of the run stands before the place.
 -- Assumes nothing.
-use mathlib.Core.Path.{◌≡◌, refl, ap, ◌∙◌}
+use mathlib.Core.Path.{refl, ap, ◌∙◌}
 use Prim.Native.Nat.{◌-◌}
 use native.Mathlib.Omega.{arith}
-use lib.ListN.{length}
-use borrow.Author.Rules.{rules}
-use Rattle.token.specs.Token.{rows}
 use Rattle.lexer.specs.Lexer.{word_head}
-use Rattle.lexer.specs.Words.{words}
-use Rattle.lexer.proofs.Steps.{Cutting, went-start, step_asks, step_head, step-place, cut_inside, cut_head, cut_step}
+use Rattle.lexer.proofs.Steps.{went-start, step_asks, step_head, step-place, cut_inside, cut_head, cut_step}
 use Rattle.token.proofs.Rows.{rows-room}
 use Rattle.lexer.proofs.parse_string.Goals as goal
 

@@ -2,7 +2,6 @@
 -- Assumes nothing.
 use mathlib.Core.Path.{sym, ap, ◌∙◌}
 use native.Mathlib.Omega.{arith}
-use borrow.Author.Rules.{rules}
 use Rattle.lexer.specs.Lexer.{size_of}
 use Rattle.lexer.specs.State.{plan_of}
 use Rattle.lexer.proofs.plan_for.Goals as goal

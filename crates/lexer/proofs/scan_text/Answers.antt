@@ -1,13 +1,10 @@
 -- The invariant is `Went`: what stands in the arrays and what is still to come make the tokens of the text.
 -- Assumes nothing.
-use mathlib.Core.Path.{◌≡◌, refl}
+use mathlib.Core.Path.{refl}
 use Prim.Native.Nat.{◌-◌, ◌≤◌}
 use native.Mathlib.Omega.{arith}
 use lib.ListN.{length}
-use borrow.Author.Rules.{rules}
 use Rattle.token.specs.Token.{rows}
-use Rattle.lexer.specs.State.{Went}
-use Rattle.lexer.specs.Words.{words}
 use Rattle.lexer.proofs.Steps.{went-start, went_on, went-end}
 use Rattle.token.proofs.Rows.{rows-room}
 use Rattle.lexer.proofs.scan_text.Goals as goal

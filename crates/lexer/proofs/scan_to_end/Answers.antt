@@ -1,7 +1,6 @@
 -- One token more, behind those of the walk.
 -- Assumes nothing.
 use native.Mathlib.Omega.{arith}
-use borrow.Author.Rules.{rules}
 use Rattle.lexer.proofs.Ranges.{scanned}
 use Rattle.lexer.proofs.Steps.{written-more}
 use Rattle.token.proofs.Rows.{rows-room}

@@ -2,7 +2,6 @@
 -- Assumes nothing.
 use mathlib.Core.Path.{sym, ◌∙◌}
 use native.Mathlib.Omega.{arith}
-use borrow.Author.Rules.{rules}
 use Rattle.lexer.proofs.Runs.{run_stop, run_turn}
 use Rattle.lexer.proofs.Steps.{step_asks, step_head, step_went, step-place}
 use Rattle.token.proofs.Rows.{rows-room}

@@ -1,7 +1,6 @@
 -- The tables are lent as they were made; rows that are untouched behind the tokens are arrays that are.
 -- Assumes nothing.
 use native.Mathlib.Omega.{arith}
-use borrow.Author.Rules.{rules}
 use Rattle.token.proofs.Rows.{untouched_rows}
 use Rattle.lexer.proofs.scan_tokens.Goals as goal
 

@@ -1,6 +1,5 @@
 -- The sign of the character, if it has one.
 -- Assumes nothing.
-use borrow.Author.Rules.{rules}
 use borrow.Author.Tests.{eq-eqb, ne_eqb}
 use Rattle.lexer.proofs.sign_head.Goals as goal
 

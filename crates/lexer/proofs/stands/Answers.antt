@@ -3,7 +3,6 @@
 use mathlib.Core.Path.{sym}
 use native.Mathlib.Omega.{arith}
 use lib.ListN.{drop, length-drop}
-use borrow.Author.Rules.{rules}
 use Rattle.lexer.proofs.Chains.{begins_far, longest_is}
 use Rattle.lexer.proofs.Runs.{run_within, word_fits}
 use Rattle.lexer.proofs.stands.Goals as goal

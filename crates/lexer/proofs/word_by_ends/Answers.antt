@@ -6,10 +6,9 @@ use Prim.Native.Nat.{ℕ, ◌+◌, min}
 use native.Mathlib.Nat.{add-zero}
 use lib.ListN.{get_or, drop}
 use lib.Seq.{get_or-drop}
-use borrow.Author.Rules.{rules}
 use Rattle.lexer.specs.State.{longest_word}
 use Rattle.lexer.specs.Words.{match}
-use Rattle.lexer.proofs.Chains.{Chosen, chosen-start, chosen-step, chosen_hit, chosen-falls, chosen-end, rank}
+use Rattle.lexer.proofs.Chains.{chosen-start, chosen-step, chosen_hit, chosen-falls, chosen-end}
 use Rattle.lexer.proofs.Words.{info-is}
 use Rattle.lexer.proofs.word_by_ends.Goals as goal
 

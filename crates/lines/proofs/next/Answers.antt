@@ -1,7 +1,6 @@
 -- One of the two calls was made, as the block has bytes left or not.
 -- Assumes nothing.
 use Rattle.lines.proofs.Steps.{next-read, next-took}
-use borrow.Author.Rules.{rules}
 use Rattle.lines.proofs.next.Goals as goal
 
 pub returns-then-at-end : goal.returns-then-at-end

@@ -4,7 +4,6 @@ use mathlib.Core.Path.{refl, sym}
 use native.Mathlib.Omega.{arith}
 use borrow.Author.Tests.{le-ltb, lt-ltb}
 use Rattle.lines.proofs.Steps.{took}
-use borrow.Author.Rules.{rules}
 use Rattle.lines.proofs.take.Goals as goal
 
 pub returns-then-stop-end : goal.returns-then-stop-end

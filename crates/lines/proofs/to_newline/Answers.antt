@@ -1,13 +1,11 @@
 -- As many bytes are passed as the walk from the first says less what it says from here on; the measure is what is left of them.
 -- Assumes nothing.
 use mathlib.Core.Path.{◌≡◌}
-use Prim.Native.Nat.{◌+◌, ◌-◌, ◌≤◌}
+use Prim.Native.Nat.{◌-◌}
 use native.Mathlib.Omega.{arith}
 use borrow.Author.Tests.{eq-eqb, ne_eqb}
-use lib.ListN.{drop, length}
-use Rattle.lines.specs.Input.{to_newline}
+use lib.ListN.{length}
 use Rattle.lines.proofs.Newlines.{further, here, nothing}
-use borrow.Author.Rules.{rules}
 use Rattle.lines.proofs.to_newline.Goals as goal
 
 pub returns-then-bytes-i-eq10 : goal.returns-then-bytes-i-eq10

@@ -2,12 +2,8 @@
 -- Assumes nothing.
 use mathlib.Core.Path.{◌≡◌}
 use Prim.Native.Nat.{◌+◌, ◌-◌, ◌≤◌}
-use native.Mathlib.Omega.{arith}
-use borrow.Author.Tests.{eq-eqb, ne_eqb}
 use lib.ListN.{drop, length}
 use Rattle.lines.specs.Input.{to_newline}
-use Rattle.lines.proofs.Newlines.{further, here, nothing}
-use borrow.Author.Rules.{rules}
 use Rattle.lines.proofs.to_newline.Given as goal
 
 abbrev pub invariant-loop-i : goal.invariant-loop-i

@@ -5,9 +5,7 @@ use mathlib.Core.Path.{◌≡◌, refl, sym, ap, ◌∙◌}
 use Prim.Native.Nat.{◌≤◌, ◌<◌}
 use native.Mathlib.Omega.{arith}
 use lib.ListN.{length}
-use borrow.Author.Rules.{rules}
 use Rattle.chord.specs.Chord.{four_of}
-use Rattle.house_parts.specs.Question.{realizable}
 use Rattle.intervals.specs.Interval.{Set}
 use Rattle.keys.proofs.Wanting.{same_set}
 use Rattle.keys.specs.Keys.{keys_of, outside, wants}

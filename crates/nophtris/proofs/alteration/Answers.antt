@@ -1,7 +1,6 @@
 -- The variant that the arm tells.
 -- Assumes nothing.
 use mathlib.Core.Path.{sym, ap}
-use borrow.Author.Rules.{rules}
 use Rattle.nophtris.specs.Boundary.{alteration_byte}
 use Rattle.nophtris.proofs.alteration.Goals as goal
 

@@ -1,6 +1,5 @@
 -- The test's answer chooses the number on both sides.
 -- Assumes nothing.
-use borrow.Author.Rules.{rules}
 use Rattle.nophtris.proofs.bit.Goals as goal
 
 pub returns-then-contains : goal.returns-then-contains

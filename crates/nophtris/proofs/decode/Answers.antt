@@ -1,6 +1,5 @@
 -- Field by field.
 -- Assumes nothing.
-use borrow.Author.Rules.{rules}
 use Rattle.nophtris.specs.Boundary.{values_in}
 use Rattle.nophtris.proofs.decode.Goals as goal
 

@@ -3,7 +3,6 @@
 use mathlib.Core.Path.{◌≡◌, subst}
 use Prim.Native.Nat.{ℕ}
 use native.Mathlib.Omega.{arith}
-use borrow.Author.Rules.{rules}
 use Rattle.chord.specs.Chord.{four_of}
 use Rattle.intervals.specs.Stored.{members}
 use Rattle.writer.proofs.Puts.{put_then, put-length}

@@ -1,7 +1,6 @@
 -- The tests in the definition's order.
 -- Assumes nothing.
 use mathlib.Core.Path.{sym, ◌∙◌}
-use borrow.Author.Rules.{rules}
 use borrow.Author.Tests.{not-true, not-false, le-leb, lt-leb}
 use Rattle.nophtris.specs.Boundary.{inside}
 use Rattle.nophtris.proofs.Bytes.{failed, passed}

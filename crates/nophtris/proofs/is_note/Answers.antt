@@ -1,6 +1,5 @@
 -- The tests in the definition's order.
 -- Assumes nothing.
-use borrow.Author.Rules.{rules}
 use borrow.Author.Tests.{ne_eqb, lt-ltb, le-ltb}
 use Rattle.nophtris.proofs.is_note.Goals as goal
 

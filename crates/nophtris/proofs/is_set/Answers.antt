@@ -1,11 +1,9 @@
 -- The invariant: all are bits exactly when those from i on are.
 -- Assumes nothing.
-use mathlib.Core.Path.{◌≡◌, refl, sym, ◌∙◌}
+use mathlib.Core.Path.{refl, sym, ◌∙◌}
 use Prim.Native.Nat.{◌-◌, ◌≤◌, ◌<◌}
 use native.Mathlib.Omega.{arith}
 use lib.ListN.{drop, get_or, take}
-use borrow.Author.Rules.{rules}
-use Rattle.nophtris.specs.Boundary.{are_bits}
 use Rattle.nophtris.proofs.Bytes.{bits-length, bits_at, no_bit, one_bit, bits-end}
 use Rattle.nophtris.proofs.is_set.Goals as goal
 

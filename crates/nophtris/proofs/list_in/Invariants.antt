@@ -1,14 +1,8 @@
 -- The invariant: the first i numbers of the array are those of the bytes.
 -- Assumes nothing.
-use mathlib.Core.Path.{◌≡◌, refl, sym, ap, ◌∙◌}
-use Prim.Native.Nat.{ℕ, ◌+◌, ◌-◌, ◌≤◌}
-use native.Mathlib.Omega.{arith}
-use lib.ListN.{drop, get_or, length, length-drop, length-set, take}
-use lib.Seq.{get_or-drop, take_all}
-use borrow.Author.Rules.{rules}
-use Rattle.intervals.specs.Stored.{listed}
-use Rattle.nophtris.specs.Boundary.{values_in}
-use Rattle.nophtris.proofs.Bytes.{listed_next}
+use mathlib.Core.Path.{◌≡◌}
+use Prim.Native.Nat.{◌-◌, ◌≤◌}
+use lib.ListN.{drop, length, take}
 use Rattle.nophtris.proofs.list_in.Given as goal
 
 abbrev pub invariant-loop-i : goal.invariant-loop-i

@@ -1,6 +1,5 @@
 -- Where the number is 0 the spot is written, and else nothing.
 -- Assumes nothing.
-use borrow.Author.Rules.{rules}
 use Rattle.endings.proofs.Spots.{spot-ordered}
 use Rattle.nophtris.proofs.Spots.{gave_no_bar, gave_spot}
 use Rattle.nophtris.proofs.nophtris_bar.Goals as goal

@@ -1,7 +1,6 @@
 -- The bytes of the record are looked at, and the answer of `midi::next` is matched: each arm gives its number, and writes what the
 -- definition says. Assumes nothing.
 use mathlib.Core.Path.{refl, sym, ◌∙◌}
-use borrow.Author.Rules.{rules}
 use borrow.Author.Tests.{not-false, not-true}
 use Rattle.midi.specs.declared.Answer.TheVariants.{Sent, NoText, OutsideKeys, ShortOutput}
 use Rattle.nophtris.proofs.Sounding.{gave_next, gave_none}

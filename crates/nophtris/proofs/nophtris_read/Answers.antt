@@ -1,7 +1,6 @@
 -- The reader's answer is matched: each arm gives its number, and writes what the definition says.
 -- Assumes nothing.
 use mathlib.Core.Path.{refl, ap, ◌∙◌}
-use borrow.Author.Rules.{rules}
 use Rattle.chord.specs.Chord.{four_of}
 use Rattle.reader.specs.declared.Answer.TheVariants.{Accepted, ShortList, LongText, NotUtf8, Parse, Validation}
 use Rattle.nophtris.specs.Boundary.{chord_bytes}

@@ -1,6 +1,5 @@
 -- Each arm is told what was found; where that is a bar, `nophtris_read` gives the rest.
 -- Assumes nothing.
-use borrow.Author.Rules.{rules}
 use Rattle.song.proofs.Laws.{found_within}
 use Rattle.nophtris.proofs.Steps.{gave_bar, gave_eight, gave_end}
 use Rattle.nophtris.proofs.nophtris_step.Goals as goal

@@ -4,7 +4,6 @@ use mathlib.Core.Path.{subst, sym, ◌∙◌}
 use Prim.Native.Nat.{◌≤◌}
 use native.Mathlib.Omega.{arith}
 use lib.ListN.{length}
-use borrow.Author.Rules.{rules}
 use borrow.Author.Tests.{not-true, not-false}
 use Rattle.chord.specs.Chord.{four_of}
 use Rattle.writer.specs.Writer.{length_of}

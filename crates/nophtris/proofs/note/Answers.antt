@@ -1,6 +1,5 @@
 -- By whether the letter is 255.
 -- Assumes nothing.
-use borrow.Author.Rules.{rules}
 use borrow.Author.Tests.{ne_eqb}
 use Rattle.nophtris.proofs.note.Goals as goal
 

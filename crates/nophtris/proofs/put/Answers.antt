@@ -1,6 +1,5 @@
 -- The store is one byte behind the first n.
 -- Assumes nothing.
-use borrow.Author.Rules.{rules}
 use Rattle.writer.proofs.Puts.{put_one}
 use Rattle.nophtris.proofs.put.Goals as goal
 

@@ -2,14 +2,12 @@
 -- Assumes nothing.
 use mathlib.Core.List.{[], ◌∷◌}
 use mathlib.Core.Path.{◌≡◌, sym, ap, ◌∙◌}
-use Prim.Native.Nat.{ℕ, ◌-◌, ◌≤◌, ◌<◌}
+use Prim.Native.Nat.{ℕ, ◌-◌, ◌<◌}
 use native.Mathlib.Omega.{arith}
 use lib.ListN.{length, take}
 use lib.Seq.{length-take-le, take_all}
-use borrow.Author.Rules.{rules}
 use Rattle.intervals.specs.Stored.{listed}
 use Rattle.writer.proofs.Puts.{put-none, put_as, put_next, put_then, put-length}
-use Rattle.writer.specs.State.{Put}
 use Rattle.nophtris.proofs.Bytes.{padded, list_at, list_length, number_of}
 use Rattle.nophtris.proofs.put_list.Goals as goal
 

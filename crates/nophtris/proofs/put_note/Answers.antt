@@ -3,7 +3,6 @@
 use mathlib.Core.List.{[], ◌∷◌}
 use mathlib.Core.Path.{sym, ap}
 use Prim.Native.Nat.{ℕ}
-use borrow.Author.Rules.{rules}
 use Rattle.writer.proofs.Puts.{put_then, put_as}
 use Rattle.nophtris.specs.Boundary.{note_bytes}
 use Rattle.nophtris.proofs.put_note.Goals as goal

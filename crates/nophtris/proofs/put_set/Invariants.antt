@@ -1,17 +1,10 @@
 -- The invariant: the first i bytes of the set's 23 stand behind the first n of the memory.
 -- Assumes nothing.
-use mathlib.Core.List.{[], ◌∷◌}
-use mathlib.Core.Path.{◌≡◌, sym, ap, ◌∙◌}
-use Prim.Native.Nat.{ℕ, ◌-◌, ◌≤◌, ◌<◌}
-use native.Mathlib.Omega.{arith}
-use lib.ListN.{length, take}
-use lib.Seq.{length-take-le, take_all}
-use borrow.Author.Rules.{rules}
+use Prim.Native.Nat.{◌-◌, ◌≤◌}
+use lib.ListN.{take}
 use Rattle.intervals.specs.Stored.{members}
-use Rattle.writer.proofs.Puts.{put-none, put_as, put_next, put-length}
 use Rattle.writer.specs.State.{Put}
 use Rattle.nophtris.specs.Boundary.{set_bytes}
-use Rattle.nophtris.proofs.Bytes.{set_at}
 use Rattle.nophtris.proofs.put_set.Given as goal
 
 abbrev pub invariant-loop-i : goal.invariant-loop-i

@@ -2,16 +2,14 @@
 -- Assumes nothing.
 use mathlib.Core.List.{[], ◌∷◌}
 use mathlib.Core.Path.{◌≡◌, sym, ap, ◌∙◌}
-use Prim.Native.Nat.{ℕ, ◌+◌, ◌-◌, ◌≤◌, ◌<◌}
+use Prim.Native.Nat.{ℕ, ◌+◌, ◌-◌, ◌<◌}
 use native.Mathlib.Omega.{arith}
-use lib.ListN.{length, take}
+use lib.ListN.{take}
 use lib.Seq.{take_all}
-use borrow.Author.Rules.{rules}
 use Rattle.keys.proofs.Octets.{keys-at}
 use Rattle.keys.specs.Stored.{keys_bytes, members}
 use Rattle.nophtris.proofs.Answers.{put_all}
 use Rattle.writer.proofs.Puts.{put_as, put-length, put_next, put-none}
-use Rattle.writer.specs.State.{Put}
 use Rattle.nophtris.proofs.put_sounding.Goals as goal
 
 pub loop-n-init : goal.loop-n-init

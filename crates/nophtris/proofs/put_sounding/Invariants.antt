@@ -1,16 +1,9 @@
 -- The invariant: the first n of the set's 16 bytes are written.
 -- Assumes nothing.
-use mathlib.Core.List.{[], ◌∷◌}
-use mathlib.Core.Path.{◌≡◌, sym, ap, ◌∙◌}
-use Prim.Native.Nat.{ℕ, ◌+◌, ◌-◌, ◌≤◌, ◌<◌}
-use native.Mathlib.Omega.{arith}
+use mathlib.Core.Path.{◌≡◌}
+use Prim.Native.Nat.{◌-◌, ◌≤◌}
 use lib.ListN.{length, take}
-use lib.Seq.{take_all}
-use borrow.Author.Rules.{rules}
-use Rattle.keys.proofs.Octets.{keys-at}
 use Rattle.keys.specs.Stored.{keys_bytes, members}
-use Rattle.nophtris.proofs.Answers.{put_all}
-use Rattle.writer.proofs.Puts.{put_as, put-length, put_next, put-none}
 use Rattle.writer.specs.State.{Put}
 use Rattle.nophtris.proofs.put_sounding.Given as goal
 

@@ -1,16 +1,11 @@
 -- The invariant: the set has the members below i, and no others.
 -- Assumes nothing.
-use mathlib.Core.Bool.{Bool, ◌&&◌}
-use mathlib.Core.Path.{◌≡◌, ap, ◌∙◌}
+use mathlib.Core.Bool.{◌&&◌}
+use mathlib.Core.Path.{◌≡◌}
 use Prim.Native.Nat.{ℕ, ◌+◌, ◌-◌, ◌≤◌}
-use native.Mathlib.Omega.{arith}
 use lib.Dec.{eqb, ltb}
 use lib.ListN.{get_or}
-use borrow.Author.Rules.{rules}
 use Rattle.intervals.specs.Stored.{members}
-use Rattle.intervals.specs.Interval.{Set}
-use Rattle.nophtris.specs.Boundary.{values_in}
-use Rattle.nophtris.proofs.Bytes.{inserted, none_yet}
 use Rattle.nophtris.proofs.set_in.Given as goal
 
 abbrev pub invariant-loop-i : goal.invariant-loop-i

@@ -5,7 +5,6 @@ use mathlib.Core.Path.{sym, ap, ◌∙◌}
 use borrow.Author.Tests.{eq-eqb, ne_eqb}
 use Rattle.intervals.specs.Stored.{members}
 use Rattle.intervals.specs.Interval.{insert}
-use borrow.Author.Rules.{rules}
 use Rattle.nophtris.proofs.with_member.Goals as goal
 
 pub returns-then-byte-eq1 : goal.returns-then-byte-eq1

@@ -1,11 +1,10 @@
 -- The bytes passed are put; the measure is what is left of them.
 -- Assumes nothing.
 use mathlib.Core.Path.{◌≡◌, ap, ◌∙◌}
-use Prim.Native.Nat.{ℕ, ◌-◌, ◌≤◌}
+use Prim.Native.Nat.{ℕ, ◌-◌}
 use native.Mathlib.Omega.{arith}
 use lib.Seq.{take-length}
 use lib.ListN.{length, take}
-use Rattle.output.specs.Output.{Put}
 use Rattle.output.proofs.Puts.{put_as, put-length, put_next}
 use borrow.Author.Rules.{rules}
 use Rattle.output.proofs.put_bytes.Goals as goal

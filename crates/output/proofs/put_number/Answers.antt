@@ -4,7 +4,6 @@ use mathlib.Core.Path.{ap}
 use Prim.Native.Nat.{ℕ}
 use lib.ListN.{replicate}
 use Rattle.output.proofs.Puts.{put_as, put_then}
-use borrow.Author.Rules.{rules}
 use Rattle.output.proofs.put_number.Goals as goal
 
 pub returns : goal.returns

@@ -1,10 +1,9 @@
 -- So many spaces are put as turns are over; the measure is what is left of them.
 -- Assumes nothing.
 use mathlib.Core.Path.{◌≡◌, ap}
-use Prim.Native.Nat.{ℕ, ◌-◌, ◌≤◌}
+use Prim.Native.Nat.{ℕ, ◌-◌}
 use native.Mathlib.Omega.{arith}
 use lib.ListN.{replicate}
-use Rattle.output.specs.Output.{Put}
 use Rattle.output.proofs.Puts.{put_again, put_as, put-length}
 use borrow.Author.Rules.{rules}
 use Rattle.output.proofs.put_spaces.Goals as goal

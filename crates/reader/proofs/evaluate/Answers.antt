@@ -6,7 +6,6 @@ use Rattle.reader.proofs.Judge.{gave_errors, gave_none, untouched}
 use Rattle.reader.specs.Reader.{accepted, count_of, number_of}
 use Rattle.expression.specs.State.{Wrote}
 use Rattle.validator.specs.Validator.{validation_of}
-use borrow.Author.Rules.{rules}
 use mathlib.Core.List.{map}
 use mathlib.Core.Path.{◌≡◌, ap, refl, subst}
 use native.Mathlib.Omega.{arith}

@@ -1,10 +1,8 @@
 -- The invariant: whether the text is blank is whether it is so from here on.
 -- Assumes nothing.
-use mathlib.Core.Path.{◌≡◌, refl, sym, ◌∙◌}
-use Prim.Native.Nat.{◌≤◌, ◌-◌}
+use mathlib.Core.Path.{refl, sym, ◌∙◌}
+use Prim.Native.Nat.{◌-◌}
 use native.Mathlib.Omega.{arith}
-use lib.ListN.{drop, length}
-use Rattle.reader.specs.Reader.{is_blank}
 use Rattle.reader.proofs.Blank.{blank-ends, blank_on, blank-last}
 use Rattle.reader.proofs.is_blank.Goals as goal
 

@@ -1,11 +1,9 @@
 -- The invariant: whether the text is blank is whether it is so from here on.
 -- Assumes nothing.
-use mathlib.Core.Path.{◌≡◌, refl, sym, ◌∙◌}
+use mathlib.Core.Path.{◌≡◌}
 use Prim.Native.Nat.{◌≤◌, ◌-◌}
-use native.Mathlib.Omega.{arith}
 use lib.ListN.{drop, length}
 use Rattle.reader.specs.Reader.{is_blank}
-use Rattle.reader.proofs.Blank.{blank-ends, blank_on, blank-last}
 use Rattle.reader.proofs.is_blank.Given as goal
 
 abbrev pub invariant-loop-i : goal.invariant-loop-i

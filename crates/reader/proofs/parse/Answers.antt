@@ -6,7 +6,6 @@ use Rattle.reader.proofs.Judge.{as_is, counted, gave_errors, gave_none, sounds-a
 use Rattle.reader.specs.Reader.{count_of, number_of, validated}
 use Rattle.expression.specs.Bounds.{Sound}
 use Rattle.token.specs.Token.{rows}
-use borrow.Author.Rules.{rules}
 use lib.ListN.{length-take, take}
 use lib.Seq.{length-take-le}
 use mathlib.Core.Path.{◌≡◌, ap, subst, sym}

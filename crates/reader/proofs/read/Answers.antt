@@ -1,7 +1,6 @@
 -- Question by question.
 use Rattle.reader.proofs.Answers.{is-blank, is-text, long_list, long_text, not_utf8, short-list}
 use Rattle.reader.proofs.Judge.{gave_no_chord, gave_same, no, yes}
-use borrow.Author.Rules.{rules}
 use lib.ListN.{length}
 use mathlib.Core.Path.{◌∙◌, refl, sym}
 use Rattle.reader.proofs.read.Goals as goal

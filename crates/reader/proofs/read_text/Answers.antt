@@ -1,7 +1,6 @@
 -- The tokens of the text are what stands in the arrays.
 use Rattle.parser.proofs.Rows.{rows_take, tokens_first}
 use Rattle.reader.proofs.Judge.{as_tokens}
-use borrow.Author.Rules.{rules}
 use lib.Seq.{length-take-le}
 use mathlib.Core.Path.{◌∙◌, sym}
 use native.Mathlib.Omega.{arith}

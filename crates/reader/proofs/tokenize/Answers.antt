@@ -5,7 +5,6 @@ use Rattle.folding.specs.Folding.{pre_process}
 use Rattle.lexer.proofs.Ranges.{scanned_short}
 use Rattle.token.proofs.Ranges.{ranged_wider}
 use Rattle.token.specs.Token.{Ranged, rows}
-use borrow.Author.Rules.{rules}
 use lib.ListN.{length, take}
 use mathlib.Core.Path.{◌∙◌, ap, subst, sym}
 use native.Mathlib.Nat.{le_trans}

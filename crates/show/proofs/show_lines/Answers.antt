@@ -1,9 +1,6 @@
 -- The state lies inside the two buffers at each turn; the measure is the count of calls that may follow.
 -- Assumes nothing.
-use mathlib.Core.Path.{◌≡◌, refl}
-use lib.ListN.{length}
-use Rattle.lines.specs.Input.{Inside}
-use borrow.Author.Rules.{rules}
+use mathlib.Core.Path.{refl}
 use Rattle.show.proofs.show_lines.Goals as goal
 
 pub loop-s-init : goal.loop-s-init

@@ -1,6 +1,5 @@
 -- Each arm is told what was found; where that is a bar, reading it gives the rest.
 -- Assumes nothing.
-use borrow.Author.Rules.{rules}
 use Rattle.song.proofs.Laws.{a_bar, at-end, found_within, too_long}
 use Rattle.song.proofs.step_at.Goals as goal
 

@@ -1,6 +1,5 @@
 -- The record of no chord is the one that `Chord::new` gives.
 -- Assumes nothing.
-use borrow.Author.Rules.{rules}
 use Rattle.song.proofs.without_bar.Goals as goal
 
 pub returns : goal.returns

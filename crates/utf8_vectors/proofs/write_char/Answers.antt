@@ -5,7 +5,6 @@ use mathlib.Core.Path.{◌≡◌, sym, ◌∙◌}
 use Prim.Native.Nat.{ℕ, ◌+◌, ◌-◌, ◌≤◌, ◌<◌}
 use native.Mathlib.Omega.{arith}
 use lib.ListN.{length, drop, length-drop}
-use borrow.Author.Rules.{rules}
 use Rattle.utf8.specs.Utf8.{char_at}
 use Rattle.utf8.specs.declared.Found.TheVariants.{Char}
 use Rattle.utf8.proofs.Laws.{found-size, found_within}

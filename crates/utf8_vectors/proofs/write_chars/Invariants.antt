@@ -2,7 +2,6 @@
 -- Assumes nothing.
 use Prim.Native.Nat.{◌-◌, ◌≤◌}
 use lib.ListN.{length}
-use borrow.Author.Rules.{rules}
 use Rattle.utf8_vectors.proofs.write_chars.Given as goal
 
 abbrev pub invariant-loop-at : goal.invariant-loop-at

@@ -2,7 +2,6 @@
 -- Assumes nothing.
 use mathlib.Core.Bool.{Bool, true, false, true≢false, false≢true, not, ◌&&◌}
 use mathlib.Core.Path.{◌≡◌, refl, sym, ap, ◌∙◌}
-use borrow.Author.Rules.{rules}
 use Rattle.intervals.specs.Stored.{members}
 use Rattle.validator.specs.Validator.{all_from, conflict_at, is_nil, semitone_errors, set_valid}
 use Rattle.validator.proofs.is_valid_set.Goals as goal

@@ -2,7 +2,6 @@
 -- Assumes nothing.
 use Rattle.expression.proofs.Wrote.{wrote_then}
 use Rattle.validator.specs.Validator.{validation_of}
-use borrow.Author.Rules.{rules}
 use native.Mathlib.Omega.{arith}
 use Rattle.validator.proofs.validate.Goals as goal
 

@@ -3,7 +3,6 @@
 use mathlib.Core.Bool.{Bool, true}
 use mathlib.Core.Logic.{◌↔◌}
 use mathlib.Core.Path.{◌≡◌, subst, sym}
-use borrow.Author.Rules.{rules}
 use Rattle.chord.specs.Chord.{four_of}
 use Rattle.writer.specs.Writer.{HasText}
 use Rattle.writer.proofs.Answers.{decided}

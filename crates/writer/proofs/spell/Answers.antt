@@ -1,7 +1,6 @@
 -- By whether there is a root; K is the one that the record shows.
 -- Assumes nothing.
 use mathlib.Core.Path.{sym, ap, ◌∙◌}
-use borrow.Author.Rules.{rules}
 use Rattle.chord.specs.Chord.{four_of}
 use Rattle.house_text.specs.Spelling.{house_by}
 use Rattle.writer.proofs.Answers.{spell_by, house-by}

@@ -2,7 +2,6 @@
 -- Assumes nothing.
 use mathlib.Core.Path.{◌∙◌}
 use native.Mathlib.Omega.{arith}
-use borrow.Author.Rules.{rules}
 use Rattle.chord.specs.Chord.{four_of}
 use Rattle.writer.proofs.Answers.{gave_no_text, gave_short, gave_spelled, is_test, negated}
 use Rattle.writer.proofs.write.Goals as goal

@@ -2,7 +2,6 @@
 -- Assumes nothing.
 use mathlib.Core.Path.{◌≡◌}
 use lib.ListN.{length}
-use borrow.Author.Rules.{rules}
 use Rattle.ask.proofs.steps.put_song.Given as goal
 
 abbrev pub invariant-loop-left : goal.invariant-loop-left

@@ -1,6 +1,5 @@
 -- The third, then the fifth.
 -- Assumes nothing.
-use borrow.Author.Rules.{rules}
 use Rattle.evaluator.proofs.ast.apply_dim.Goals as goal
 
 pub returns : goal.returns

@@ -3,7 +3,6 @@
 use borrow.Enum.Refused.{opened}
 use mathlib.Core.List.{[], ◌∷◌}
 use mathlib.Core.Path.{refl}
-use borrow.Author.Rules.{rules}
 use Rattle.evaluator.specs.Evaluator.{form_of}
 use Rattle.evaluator.specs.declared.ast.BaseForm.TheVariants as form
 use Rattle.evaluator.proofs.Rest.{rest}

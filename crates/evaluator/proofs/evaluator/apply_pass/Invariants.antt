@@ -1,14 +1,12 @@
 -- The invariant: the rest, from the set so far, gives what all of them give.
 -- Assumes nothing.
-use Prim.Native.Nat.{◌+◌, ◌-◌, ◌≤◌, suc}
+use Prim.Native.Nat.{◌-◌, ◌≤◌}
 use Rattle.intervals.specs.Stored.{members}
-use Rattle.evaluator.proofs.Walks.{from, from-none, walk_turn}
+use Rattle.evaluator.proofs.Walks.{from}
 use Rattle.evaluator.specs.Evaluator.{fold_left}
 use Rattle.evaluator.specs.State.{change_by}
-use borrow.Author.Rules.{rules}
 use lib.ListN.{length}
-use mathlib.Core.Path.{◌∙◌, ◌≡◌, ap, refl, sym}
-use native.Mathlib.Omega.{arith}
+use mathlib.Core.Path.{◌≡◌}
 use Rattle.evaluator.proofs.evaluator.apply_pass.Given as goal
 
 abbrev pub invariant-loop-i : goal.invariant-loop-i

@@ -1,6 +1,5 @@
 -- Each arm is the definition at that walk.
 -- Assumes nothing.
-use borrow.Author.Rules.{rules}
 use Rattle.evaluator.proofs.evaluator.change_by.Goals as goal
 
 pub returns-in-Alterations : goal.returns-in-Alterations

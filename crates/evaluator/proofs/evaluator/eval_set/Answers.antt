@@ -1,7 +1,6 @@
 -- Each stage by what it ensures, one after another.
 use Rattle.evaluator.proofs.Walks.{staged}
 use Rattle.expression.specs.Expression.{exp_of}
-use borrow.Author.Rules.{rules}
 use mathlib.Core.List.{map}
 use Rattle.evaluator.proofs.evaluator.eval_set.Goals as goal
 

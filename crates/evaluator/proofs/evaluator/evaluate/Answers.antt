@@ -1,5 +1,4 @@
 -- The bass from the expressions, the set from the stages, and the display list of both.
-use borrow.Author.Rules.{rules}
 use mathlib.Core.Path.{sym, ap, ◌∙◌}
 use native.Mathlib.Omega.{arith}
 use Rattle.intervals.proofs.Whole.{set-whole}

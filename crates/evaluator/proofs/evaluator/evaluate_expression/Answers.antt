@@ -1,5 +1,4 @@
 -- Each field by the call that makes it.
-use borrow.Author.Rules.{rules}
 use Rattle.evaluator.proofs.evaluator.evaluate_expression.Goals as goal
 
 pub returns : goal.returns

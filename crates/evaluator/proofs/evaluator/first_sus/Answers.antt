@@ -1,9 +1,8 @@
 -- From the last expression to the first, each one overwrites those behind it.
-use Prim.Native.Nat.{◌-◌, ◌≤◌, suc, ℕ}
+use Prim.Native.Nat.{◌-◌, suc, ℕ}
 use Rattle.evaluator.proofs.Walks.{from, from-none, sus_turn}
 use Rattle.display.specs.Display.{first_sus, sus_of}
 use Rattle.expression.specs.declared.expression.Exp.{Exp}
-use borrow.Author.Rules.{rules}
 use lib.ListN.{length}
 use mathlib.Core.Path.{◌∙◌, ◌≡◌, ap, sym}
 use native.Mathlib.Omega.{arith}

@@ -1,5 +1,4 @@
 -- The seed is the three intervals, inserted.
-use borrow.Author.Rules.{rules}
 use mathlib.Core.Path.{refl}
 use Rattle.evaluator.proofs.evaluator.seed_defaults.Goals as goal
 

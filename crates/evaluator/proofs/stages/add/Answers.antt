@@ -1,6 +1,5 @@
 -- By whether it is the flat thirteenth.
 -- Assumes nothing.
-use borrow.Author.Rules.{rules}
 use borrow.Author.Tests.{ne_eqb}
 use Rattle.evaluator.proofs.stages.add.Goals as goal
 

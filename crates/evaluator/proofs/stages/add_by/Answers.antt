@@ -3,7 +3,6 @@
 use borrow.Enum.Refused.{opened}
 use mathlib.Core.List.{[], ◌∷◌}
 use mathlib.Core.Path.{refl, subst}
-use borrow.Author.Rules.{rules}
 use Rattle.intervals.specs.Stored.{members}
 use Rattle.expression.specs.Bounds.{Sound}
 use Rattle.evaluator.specs.Evaluator.{add_by}

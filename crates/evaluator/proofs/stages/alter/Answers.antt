@@ -1,6 +1,5 @@
 -- By whether it is one of the three that take the place of the fifth.
 -- Assumes nothing.
-use borrow.Author.Rules.{rules}
 use borrow.Author.Tests.{ne_eqb}
 use Rattle.evaluator.proofs.stages.alter.Goals as goal
 

@@ -1,6 +1,5 @@
 -- The four one after another.
 -- Assumes nothing.
-use borrow.Author.Rules.{rules}
 use Rattle.evaluator.proofs.stages.alter_alt.Goals as goal
 
 pub returns : goal.returns

@@ -1,6 +1,5 @@
 -- By whether it is an alteration.
 -- Assumes nothing.
-use borrow.Author.Rules.{rules}
 use Rattle.evaluator.proofs.stages.alter_extension.Goals as goal
 
 pub returns-then-is_alteration : goal.returns-then-is_alteration

@@ -1,6 +1,5 @@
 -- By whether there is a sus.
 -- Assumes nothing.
-use borrow.Author.Rules.{rules}
 use Rattle.evaluator.proofs.stages.apply_sus.Goals as goal
 
 pub returns-then-sus : goal.returns-then-sus

@@ -3,7 +3,6 @@
 use borrow.Enum.Refused.{opened}
 use mathlib.Core.List.{[], ◌∷◌}
 use mathlib.Core.Path.{refl}
-use borrow.Author.Rules.{rules}
 use Rattle.evaluator.specs.Evaluator.{bass_of}
 use Rattle.evaluator.proofs.Rest.{rest}
 use Rattle.evaluator.proofs.stages.bass_of.Goals as goal

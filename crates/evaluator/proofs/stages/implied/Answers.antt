@@ -1,6 +1,5 @@
 -- By the largest extension.
 -- Assumes nothing.
-use borrow.Author.Rules.{rules}
 use borrow.Author.Tests.{ne_eqb}
 use Rattle.evaluator.proofs.stages.implied.Goals as goal
 

@@ -1,6 +1,5 @@
 -- By whether the form is major.
 -- Assumes nothing.
-use borrow.Author.Rules.{rules}
 use Rattle.evaluator.proofs.stages.implied11.Goals as goal
 
 pub returns-then-major : goal.returns-then-major

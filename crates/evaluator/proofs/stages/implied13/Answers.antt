@@ -1,6 +1,5 @@
 -- By whether the form is major.
 -- Assumes nothing.
-use borrow.Author.Rules.{rules}
 use Rattle.evaluator.proofs.stages.implied13.Goals as goal
 
 pub returns-then-major : goal.returns-then-major

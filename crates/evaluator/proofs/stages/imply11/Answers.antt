@@ -1,6 +1,5 @@
 -- By whether the sharp eleventh is there.
 -- Assumes nothing.
-use borrow.Author.Rules.{rules}
 use Rattle.evaluator.proofs.stages.imply11.Goals as goal
 
 pub returns-then-contains : goal.returns-then-contains

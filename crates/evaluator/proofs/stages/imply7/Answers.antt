@@ -1,6 +1,5 @@
 -- By whether there is a Maj, then by whether the diminished seventh is there.
 -- Assumes nothing.
-use borrow.Author.Rules.{rules}
 use Rattle.evaluator.proofs.stages.imply7.Goals as goal
 
 pub returns-then-maj : goal.returns-then-maj

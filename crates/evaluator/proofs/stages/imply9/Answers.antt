@@ -1,6 +1,5 @@
 -- By whether one of the altered ninths is there.
 -- Assumes nothing.
-use borrow.Author.Rules.{rules}
 use Rattle.evaluator.proofs.stages.imply9.Goals as goal
 
 pub returns-then-contains : goal.returns-then-contains

@@ -1,6 +1,5 @@
 -- By which interval it is.
 -- Assumes nothing.
-use borrow.Author.Rules.{rules}
 use borrow.Author.Tests.{ne_eqb}
 use Rattle.evaluator.proofs.stages.insert_direct.Goals as goal
 

@@ -4,7 +4,6 @@ use borrow.Enum.Refused.{opened}
 use mathlib.Core.Bool.{false}
 use mathlib.Core.List.{[], ◌∷◌}
 use mathlib.Core.Path.{refl}
-use borrow.Author.Rules.{rules}
 use Rattle.evaluator.specs.Evaluator.{is_sus4}
 use Rattle.evaluator.proofs.Rest.{rest}
 use Rattle.evaluator.proofs.stages.is_sus4.Goals as goal

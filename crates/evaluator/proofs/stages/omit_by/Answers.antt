@@ -3,7 +3,6 @@
 use borrow.Enum.Refused.{opened}
 use mathlib.Core.List.{[], ◌∷◌}
 use mathlib.Core.Path.{refl}
-use borrow.Author.Rules.{rules}
 use Rattle.intervals.specs.Stored.{members}
 use Rattle.evaluator.specs.Evaluator.{omit_by}
 use Rattle.evaluator.proofs.Rest.{rest}

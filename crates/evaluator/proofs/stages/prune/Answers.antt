@@ -1,6 +1,5 @@
 -- One after the other.
 -- Assumes nothing.
-use borrow.Author.Rules.{rules}
 use Rattle.evaluator.proofs.stages.prune.Goals as goal
 
 pub returns : goal.returns

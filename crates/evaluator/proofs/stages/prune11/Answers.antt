@@ -1,6 +1,5 @@
 -- By whether the major third and the eleventh are there.
 -- Assumes nothing.
-use borrow.Author.Rules.{rules}
 use Rattle.evaluator.proofs.stages.prune11.Goals as goal
 
 pub returns-then-contains-2 : goal.returns-then-contains-2

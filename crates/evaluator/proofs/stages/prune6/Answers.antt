@@ -1,6 +1,5 @@
 -- By whether the major sixth is there.
 -- Assumes nothing.
-use borrow.Author.Rules.{rules}
 use Rattle.evaluator.proofs.stages.prune6.Goals as goal
 
 pub returns-then-contains : goal.returns-then-contains

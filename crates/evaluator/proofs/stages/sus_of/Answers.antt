@@ -3,7 +3,6 @@
 use borrow.Enum.Refused.{opened}
 use mathlib.Core.List.{[], ◌∷◌}
 use mathlib.Core.Path.{refl}
-use borrow.Author.Rules.{rules}
 use Rattle.expression.specs.declared.expression.Exp.{Exp}
 use Rattle.display.specs.Display.{sus_of}
 use Rattle.evaluator.proofs.Rest.{rest}

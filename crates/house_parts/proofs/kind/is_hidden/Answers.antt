@@ -1,6 +1,5 @@
 -- By the test.
 -- Assumes nothing.
-use borrow.Author.Rules.{rules}
 use Rattle.house_parts.proofs.kind.is_hidden.Goals as goal
 
 pub returns-then-contains : goal.returns-then-contains

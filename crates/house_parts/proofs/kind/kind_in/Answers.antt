@@ -1,6 +1,5 @@
 -- By the three tests.
 -- Assumes nothing.
-use borrow.Author.Rules.{rules}
 use Rattle.house_parts.proofs.kind.kind_in.Goals as goal
 
 pub returns-then-is_hidden : goal.returns-then-is_hidden

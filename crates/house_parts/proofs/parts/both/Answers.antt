@@ -1,6 +1,5 @@
 -- By the test.
 -- Assumes nothing.
-use borrow.Author.Rules.{rules}
 use Rattle.house_parts.proofs.parts.both.Goals as goal
 
 pub returns-then-contains : goal.returns-then-contains

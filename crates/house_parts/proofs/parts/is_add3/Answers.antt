@@ -1,7 +1,6 @@
 -- By the tests.
 -- Assumes nothing.
 use borrow.Author.Tests.{not-false, not-true}
-use borrow.Author.Rules.{rules}
 use Rattle.house_parts.proofs.parts.is_add3.Goals as goal
 
 pub returns-then-not-contains : goal.returns-then-not-contains

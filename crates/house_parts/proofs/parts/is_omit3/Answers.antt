@@ -1,6 +1,5 @@
 -- By the test.
 -- Assumes nothing.
-use borrow.Author.Rules.{rules}
 use Rattle.house_parts.proofs.parts.is_omit3.Goals as goal
 
 pub returns : goal.returns

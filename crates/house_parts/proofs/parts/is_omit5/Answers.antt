@@ -1,6 +1,5 @@
 -- By the tests.
 -- Assumes nothing.
-use borrow.Author.Rules.{rules}
 use Rattle.house_parts.proofs.parts.is_omit5.Goals as goal
 
 pub returns-then-contains : goal.returns-then-contains

@@ -2,7 +2,6 @@
 -- Assumes nothing.
 use mathlib.Core.List.{[], ◌∷◌}
 use Rattle.house_parts.proofs.Tests.{no_arm}
-use borrow.Author.Rules.{rules}
 use Rattle.house_parts.proofs.question.clause_at.Goals as goal
 
 pub returns-in-0 : goal.returns-in-0

@@ -1,13 +1,11 @@
 -- The invariant: whether all clauses hold is whether those from here on do.
 -- Assumes nothing.
-use mathlib.Core.Path.{◌≡◌, refl, sym, ◌∙◌}
-use Prim.Native.Nat.{◌-◌, ◌≤◌}
+use mathlib.Core.Path.{refl, sym, ◌∙◌}
+use Prim.Native.Nat.{◌-◌}
 use native.Mathlib.Omega.{arith}
-use lib.ListN.{drop}
-use borrow.Author.Rules.{rules}
 use borrow.Author.Tests.{not-false, not-true}
 use Rattle.intervals.specs.Stored.{members}
-use Rattle.house_parts.specs.Question.{all, clauses}
+use Rattle.house_parts.specs.Question.{clauses}
 use Rattle.house_parts.proofs.Tests.{all_end, all_fails, all_past}
 use Rattle.house_parts.proofs.question.has_clauses.Goals as goal
 

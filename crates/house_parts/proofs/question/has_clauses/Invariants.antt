@@ -1,14 +1,10 @@
 -- The invariant: whether all clauses hold is whether those from here on do.
 -- Assumes nothing.
-use mathlib.Core.Path.{◌≡◌, refl, sym, ◌∙◌}
+use mathlib.Core.Path.{◌≡◌}
 use Prim.Native.Nat.{◌-◌, ◌≤◌}
-use native.Mathlib.Omega.{arith}
 use lib.ListN.{drop}
-use borrow.Author.Rules.{rules}
-use borrow.Author.Tests.{not-false, not-true}
 use Rattle.intervals.specs.Stored.{members}
 use Rattle.house_parts.specs.Question.{all, clauses}
-use Rattle.house_parts.proofs.Tests.{all_end, all_fails, all_past}
 use Rattle.house_parts.proofs.question.has_clauses.Given as goal
 
 abbrev pub invariant-loop-i : goal.invariant-loop-i

@@ -6,7 +6,6 @@ use Rattle.intervals.specs.Stored.{listed, members}
 use Rattle.display.specs.Display.{display_of}
 use Rattle.house_parts.specs.Question.{same_list}
 use Rattle.house_parts.proofs.Tests.{same_test}
-use borrow.Author.Rules.{rules}
 use Rattle.house_parts.proofs.question.is_display.Goals as goal
 
 pub returns : goal.returns

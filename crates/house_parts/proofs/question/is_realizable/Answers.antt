@@ -3,7 +3,6 @@
 use mathlib.Core.Bool.{true, not}
 use mathlib.Core.Logic.{◌↔◌}
 use mathlib.Core.Path.{◌≡◌, ap, subst, sym, ◌∙◌}
-use borrow.Author.Rules.{rules}
 use borrow.Author.Tests.{not-false, not-true}
 use Rattle.chord.specs.Chord.{Four, four_of}
 use Rattle.intervals.proofs.Whole.{members_narrow}

@@ -1,6 +1,5 @@
 -- By the tests, in their order.
 -- Assumes nothing.
-use borrow.Author.Rules.{rules}
 use borrow.Author.Tests.{not-false, not-true}
 use Rattle.house_parts.proofs.question.is_realizable_by.Goals as goal
 

@@ -7,7 +7,6 @@ use lib.ListN.{length, length-append}
 use Rattle.keys.proofs.Places.{places-ascending}
 use Rattle.keys.specs.Keys.{ascending}
 use Rattle.keys.specs.Stored.{members, places}
-use borrow.Author.Rules.{rules}
 use Rattle.keys.proofs.Keys.count.Goals as goal
 
 pub returns : goal.returns

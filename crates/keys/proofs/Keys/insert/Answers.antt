@@ -3,7 +3,6 @@
 use Rattle.keys.proofs.Sets.{insert-low, insert-high}
 use Rattle.keys.specs.Stored.{members}
 use Rattle.intervals.specs.Interval as Interval
-use borrow.Author.Rules.{rules}
 use Rattle.keys.proofs.Keys.insert.Goals as goal
 
 pub returns-then-key-lt64 : goal.returns-then-key-lt64

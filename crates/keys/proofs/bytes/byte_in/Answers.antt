@@ -1,7 +1,6 @@
 -- A shift brings the byte down, and a remainder cuts it off.
 -- Assumes nothing.
 use native.Mathlib.Omega.{arith}
-use borrow.Author.Rules.{rules}
 use Rattle.keys.proofs.Octets.{byte_at}
 use Rattle.keys.proofs.bytes.byte_in.Goals as goal
 

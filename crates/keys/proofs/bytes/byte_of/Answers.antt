@@ -1,6 +1,5 @@
 -- The first eight bytes are the low number's, the others the high one's.
 -- Assumes nothing.
-use borrow.Author.Rules.{rules}
 use Rattle.keys.proofs.Octets.{byte_high, byte_low}
 use Rattle.keys.proofs.bytes.byte_of.Goals as goal
 

@@ -1,6 +1,5 @@
 -- The first eight bytes are the low number, the others the high one.
 -- Assumes nothing.
-use borrow.Author.Rules.{rules}
 use Rattle.keys.proofs.Octets.{keys_told}
 use Rattle.keys.proofs.bytes.keys_in.Goals as goal
 

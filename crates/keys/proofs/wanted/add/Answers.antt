@@ -2,7 +2,6 @@
 -- Assumes nothing.
 use mathlib.Core.Path.{refl}
 use Rattle.keys.proofs.Wanting.{add_above, add-inside}
-use borrow.Author.Rules.{rules}
 use Rattle.keys.proofs.wanted.add.Goals as goal
 
 pub returns-then-key-lt128 : goal.returns-then-key-lt128

@@ -5,7 +5,6 @@ use mathlib.Core.Path.{refl, sym, ap, ◌∙◌}
 use Prim.Native.Nat.{◌+◌}
 use lib.IntN.{ℤ}
 use Rattle.keys.proofs.Wanting.{add_below, bass-none, bass-some, sub_twelve, want_as}
-use borrow.Author.Rules.{rules}
 use Rattle.keys.proofs.wanted.add_bass.Goals as goal
 
 pub returns-then-key-ge12 : goal.returns-then-key-ge12

@@ -1,6 +1,5 @@
 -- The invariant: the keys of the numbers passed are wanted.
 -- Assumes nothing.
-use borrow.Author.Rules.{rules}
 use mathlib.Core.List.{[], ◌∷◌, ◌++◌}
 use mathlib.Core.Path.{◌≡◌, refl, sym, ap, ◌∙◌}
 use Prim.Native.Nat.{ℕ, ◌+◌, ◌-◌, ◌<◌, ◌≤◌}
@@ -12,7 +11,6 @@ use Rattle.intervals.specs.Stored.{listed}
 use Rattle.intervals.specs.Interval.{semitones}
 use Rattle.keys.proofs.Wanting.{display-all, display-next, display-start, want_as, want_none}
 use Rattle.keys.specs.Keys.{display_keys}
-use Rattle.keys.specs.Stored.{Wants}
 use Rattle.keys.proofs.wanted.add_list.Goals as goal
 
 pub loop-i-init : goal.loop-i-init

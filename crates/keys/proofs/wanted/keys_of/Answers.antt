@@ -3,7 +3,6 @@
 use mathlib.Core.Path.{refl}
 use Rattle.intervals.specs.Stored.{listed}
 use Rattle.keys.proofs.Wanting.{root_none, root-some, want_as, want_none}
-use borrow.Author.Rules.{rules}
 use Rattle.keys.proofs.wanted.keys_of.Goals as goal
 
 pub returns-in-None : goal.returns-in-None

@@ -2,7 +2,6 @@
 -- Assumes nothing.
 use native.Mathlib.Omega.{arith}
 use Rattle.keys.proofs.Wanting.{no_semitones}
-use borrow.Author.Rules.{rules}
 use Rattle.keys.proofs.wanted.semitones_of.Goals as goal
 
 pub returns : goal.returns

@@ -1,7 +1,6 @@
 -- A note is the letter with its sign.
 -- Assumes nothing.
 use mathlib.Core.Path.{sym, ap}
-use borrow.Author.Rules.{rules}
 use Rattle.lookahead.specs.Next.{note_from}
 use Rattle.lookahead.proofs.Next.note.Goals as goal
 

@@ -4,7 +4,6 @@ use mathlib.Core.Path.{◌≡◌, ap, ◌∙◌}
 use Prim.Native.Nat.{ℕ}
 use native.Mathlib.Omega.{arith}
 use lib.ListN.{length}
-use borrow.Author.Rules.{rules}
 use Rattle.intervals.specs.Interval.{Set}
 use Rattle.keys.specs.Keys.{ascending, minus}
 use Rattle.keys.specs.Stored.{members}

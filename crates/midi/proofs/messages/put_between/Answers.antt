@@ -1,10 +1,9 @@
 -- The offs are written, and the ons behind them.
 -- Assumes nothing.
 use mathlib.Core.List.{◌++◌}
-use mathlib.Core.Path.{◌≡◌, ap, ap₂}
+use mathlib.Core.Path.{ap, ap₂}
 use native.Mathlib.Omega.{arith}
 use lib.ListN.{length}
-use borrow.Author.Rules.{rules}
 use Rattle.intervals.specs.Interval.{Set}
 use Rattle.keys.specs.Keys.{ascending}
 use Rattle.keys.specs.Stored.{members}

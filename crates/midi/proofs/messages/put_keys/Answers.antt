@@ -7,7 +7,6 @@ use Rattle.writer.proofs.Puts.{put_as, put-length, put_then}
 use Rattle.midi.proofs.Words.{messages_append, messages-length}
 use Rattle.midi.specs.Midi.{messages}
 use Rattle.keys.specs.Stored.{places}
-use borrow.Author.Rules.{rules}
 use Rattle.midi.proofs.messages.put_keys.Goals as goal
 
 pub put_word-m-requires : goal.put_word-m-requires

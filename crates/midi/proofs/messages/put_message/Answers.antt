@@ -4,7 +4,6 @@ use native.Mathlib.Omega.{arith}
 use Prim.Native.Nat.{◌+◌, ◌<◌}
 use lib.ListN.{length, length-set, set}
 use Rattle.writer.proofs.Puts.{put_one, put_then}
-use borrow.Author.Rules.{rules}
 use Rattle.midi.proofs.messages.put_message.Goals as goal
 
 pub bounds-out-a : goal.bounds-out-a

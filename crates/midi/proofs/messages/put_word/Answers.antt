@@ -5,7 +5,7 @@ use Prim.Native.Nat.{◌*◌, ◌%◌, ◌^◌, ◌<◌}
 use native.Mathlib.Omega.{arith}
 use lib.Count.{count_trailing_zeros, trailing_le}
 use Rattle.intervals.proofs.Bits.{power}
-use Rattle.midi.proofs.Words.{Progress, finish, kept, less, next_place, room, start, step}
+use Rattle.midi.proofs.Words.{finish, kept, less, next_place, room, start, step}
 use Rattle.midi.proofs.messages.put_word.Goals as goal
 
 pub loop-left-init : goal.loop-left-init

@@ -1,11 +1,6 @@
 -- The invariant: the messages of the digits taken off so far stand behind the first n bytes. The measure is the number that is left.
 -- Assumes nothing.
-use mathlib.Core.Path.{◌≡◌}
-use Prim.Native.Nat.{◌*◌, ◌%◌, ◌^◌, ◌<◌}
-use native.Mathlib.Omega.{arith}
-use lib.Count.{count_trailing_zeros, trailing_le}
-use Rattle.intervals.proofs.Bits.{power}
-use Rattle.midi.proofs.Words.{Progress, finish, kept, less, next_place, room, start, step}
+use Rattle.midi.proofs.Words.{Progress}
 use Rattle.midi.proofs.messages.put_word.Given as goal
 
 abbrev pub invariant-loop-left : goal.invariant-loop-left

@@ -1,6 +1,5 @@
 -- The two stores, and the bounds that the effect keeps.
 use Rattle.parser.proofs.Effects.{count-back, did_effect}
-use borrow.Author.Rules.{rules}
 use native.Mathlib.Omega.{arith}
 use Rattle.parser.proofs.apply.apply.Goals as goal
 

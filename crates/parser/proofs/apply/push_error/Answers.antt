@@ -1,7 +1,6 @@
 -- By whether there is an error.
 use Rattle.expression.proofs.Wrote.{wrote_none, wrote_one}
 use Rattle.parser.specs.Parser.{error_of, itself}
-use borrow.Author.Rules.{rules}
 use mathlib.Core.Path.{ap}
 use Rattle.parser.proofs.apply.push_error.Goals as goal
 

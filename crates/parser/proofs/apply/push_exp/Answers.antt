@@ -1,6 +1,5 @@
 -- One store.
 use Rattle.parser.proofs.Lists.{gained-one}
-use borrow.Author.Rules.{rules}
 use Rattle.parser.proofs.apply.push_exp.Goals as goal
 
 pub returns : goal.returns

@@ -2,7 +2,6 @@
 use Rattle.parser.proofs.Lists.{gained-none, gained_then}
 use Rattle.parser.specs.Parser.{gains_of}
 use Rattle.step.specs.Bounds.{gains_count}
-use borrow.Author.Rules.{rules}
 use mathlib.Core.Path.{ap}
 use native.Mathlib.Omega.{arith}
 use Rattle.parser.proofs.apply.push_exps.Goals as goal

@@ -1,6 +1,5 @@
 -- The root's effect is one that fits the first state; its error is stored as that of any token.
 use native.Mathlib.Omega.{arith}
-use borrow.Author.Rules.{rules}
 use Rattle.parser.proofs.Effects.{begun, fits_root}
 use Rattle.parser.proofs.parser.begin.Goals as goal
 

@@ -1,5 +1,4 @@
 -- By whether a bracket is open.
-use borrow.Author.Rules.{rules}
 use Rattle.parser.proofs.parser.bracket_at.Goals as goal
 
 pub returns-then-inside : goal.returns-then-inside

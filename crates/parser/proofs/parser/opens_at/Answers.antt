@@ -1,5 +1,4 @@
 -- By what the token is to its bracket.
-use borrow.Author.Rules.{rules}
 use Rattle.parser.proofs.parser.opens_at.Goals as goal
 
 pub returns-in-Opens : goal.returns-in-Opens

@@ -1,6 +1,5 @@
 -- The root has an effect as any token has; the rest is the walk from there.
 use Rattle.parser.proofs.Walk.{parsed}
-use borrow.Author.Rules.{rules}
 use native.Mathlib.Omega.{arith}
 use Rattle.parser.proofs.parser.parse.Goals as goal
 

@@ -1,5 +1,4 @@
 -- By whether there is a root, and a sign behind it.
-use borrow.Author.Rules.{rules}
 use Rattle.parser.proofs.parser.root_effect.Goals as goal
 
 pub returns-then-is_sign : goal.returns-then-is_sign

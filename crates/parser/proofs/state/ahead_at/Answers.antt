@@ -1,5 +1,4 @@
 -- Each field by the call that reads it.
-use borrow.Author.Rules.{rules}
 use Rattle.parser.proofs.state.ahead_at.Goals as goal
 
 pub returns : goal.returns

@@ -1,7 +1,6 @@
 -- By the reach: of a token that asks for none nothing is said, one that asks for the next is told that, and else all three are told.
 use mathlib.Core.Path.{◌∙◌, ap}
 use native.Mathlib.Omega.{arith}
-use borrow.Author.Rules.{rules}
 use Rattle.lookahead.specs.declared.Ahead.{Ahead}
 use Rattle.parser.proofs.state.ahead_of.Goals as goal
 

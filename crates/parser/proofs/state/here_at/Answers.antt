@@ -1,6 +1,5 @@
 -- Each field is read where it stands.
 use Rattle.parser.proofs.Effects.{count-back}
-use borrow.Author.Rules.{rules}
 use Rattle.parser.proofs.state.here_at.Goals as goal
 
 pub returns : goal.returns

@@ -1,6 +1,5 @@
 -- By whether there is an expression.
 use Rattle.parser.proofs.Six.{last_six-at, none-six}
-use borrow.Author.Rules.{rules}
 use mathlib.Core.Path.{◌∙◌, sym}
 use Rattle.parser.proofs.state.last_is_six.Goals as goal
 

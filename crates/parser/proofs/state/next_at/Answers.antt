@@ -1,6 +1,5 @@
 -- By whether there is a token.
 use Rattle.parser.proofs.Rows.{next-none}
-use borrow.Author.Rules.{rules}
 use mathlib.Core.Path.{sym}
 use Rattle.parser.proofs.state.next_at.Goals as goal
 

@@ -1,5 +1,4 @@
 -- By whether there is a token.
-use borrow.Author.Rules.{rules}
 use lib.ListN.{get_or-eq_default}
 use mathlib.Core.Path.{sym}
 use Rattle.parser.proofs.state.pos_at.Goals as goal

@@ -1,6 +1,5 @@
 -- The bar of a step lies in the line.
 -- Assumes nothing.
-use borrow.Author.Rules.{rules}
 use Rattle.song.proofs.Laws.{step-within}
 use Rattle.show.proofs.songs.show_step.Goals as goal
 

@@ -1,6 +1,5 @@
 -- By the sign.
 -- Assumes nothing.
-use borrow.Author.Rules.{rules}
 use Rattle.step.proofs.interval.from_modifier_extension.Goals as goal
 
 pub returns-in-Natural : goal.returns-in-Natural

@@ -1,6 +1,5 @@
 -- By the state.
 -- Assumes nothing.
-use borrow.Author.Rules.{rules}
 use Rattle.step.proofs.step.add_interval.Goals as goal
 
 pub returns-in-None : goal.returns-in-None

@@ -1,6 +1,5 @@
 -- By what comes next.
 -- Assumes nothing.
-use borrow.Author.Rules.{rules}
 use borrow.Author.Tests.{ne_eqb}
 use Rattle.step.proofs.step.add_target.Goals as goal
 

@@ -1,6 +1,5 @@
 -- By whether a 5 comes next.
 -- Assumes nothing.
-use borrow.Author.Rules.{rules}
 use borrow.Author.Tests.{ne_eqb}
 use Rattle.step.proofs.step.aug.Goals as goal
 

@@ -1,6 +1,5 @@
 -- By whether a sign comes behind the note.
 -- Assumes nothing.
-use borrow.Author.Rules.{rules}
 use Rattle.step.proofs.step.bass.Goals as goal
 
 pub returns-then-is_sign : goal.returns-then-is_sign

@@ -1,6 +1,5 @@
 -- As it is written.
 -- Assumes nothing.
-use borrow.Author.Rules.{rules}
 use Rattle.step.proofs.step.close.Goals as goal
 
 pub returns : goal.returns

@@ -2,7 +2,6 @@
 -- Assumes nothing.
 -- As it is written.
 -- Assumes nothing.
-use borrow.Author.Rules.{rules}
 use Rattle.step.proofs.step.comma.Goals as goal
 
 pub returns : goal.returns

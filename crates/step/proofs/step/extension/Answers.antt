@@ -1,6 +1,5 @@
 -- By whether the 5 stands alone.
 -- Assumes nothing.
-use borrow.Author.Rules.{rules}
 use Rattle.step.proofs.step.extension.Goals as goal
 
 pub returns-then-is_power : goal.returns-then-is_power

@@ -1,6 +1,5 @@
 -- By the tests, in their order.
 -- Assumes nothing.
-use borrow.Author.Rules.{rules}
 use borrow.Author.Tests.{ne_eqb}
 use Rattle.step.proofs.step.interval_alone.Goals as goal
 

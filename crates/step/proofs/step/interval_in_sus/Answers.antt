@@ -1,6 +1,5 @@
 -- By whether sus takes the interval.
 -- Assumes nothing.
-use borrow.Author.Rules.{rules}
 use Rattle.step.proofs.step.interval_in_sus.Goals as goal
 
 pub returns-then-allowed_sus_interval : goal.returns-then-allowed_sus_interval

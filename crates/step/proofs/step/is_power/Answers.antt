@@ -1,6 +1,5 @@
 -- By whether the number is 5.
 -- Assumes nothing.
-use borrow.Author.Rules.{rules}
 use borrow.Author.Tests.{ne_eqb}
 use Rattle.step.proofs.step.is_power.Goals as goal
 

@@ -1,6 +1,5 @@
 -- By whether a 9 comes next.
 -- Assumes nothing.
-use borrow.Author.Rules.{rules}
 use borrow.Author.Tests.{ne_eqb}
 use Rattle.step.proofs.step.is_six_nine.Goals as goal
 

@@ -1,6 +1,5 @@
 -- By whether End comes next.
 -- Assumes nothing.
-use borrow.Author.Rules.{rules}
 use Rattle.step.proofs.step.last.Goals as goal
 
 pub returns-then-is_eof : goal.returns-then-is_eof

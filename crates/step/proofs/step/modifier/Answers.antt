@@ -1,6 +1,5 @@
 -- By whether a number comes next.
 -- Assumes nothing.
-use borrow.Author.Rules.{rules}
 use Rattle.step.proofs.step.modifier.Goals as goal
 
 pub returns-then-is_extension : goal.returns-then-is_extension

@@ -1,6 +1,5 @@
 -- The group, then the target.
 -- Assumes nothing.
-use borrow.Author.Rules.{rules}
 use Rattle.step.proofs.step.omit.Goals as goal
 
 pub returns : goal.returns

@@ -1,6 +1,5 @@
 -- By whether a 5 or a 3 comes next.
 -- Assumes nothing.
-use borrow.Author.Rules.{rules}
 use borrow.Author.Tests.{ne_eqb}
 use Rattle.step.proofs.step.omit_target.Goals as goal
 

@@ -1,6 +1,5 @@
 -- By whether there is an interval.
 -- Assumes nothing.
-use borrow.Author.Rules.{rules}
 use borrow.Author.Tests.{ne_eqb}
 use Rattle.step.proofs.step.place.Goals as goal
 

@@ -1,6 +1,5 @@
 -- By what the token is to the bracket.
 -- Assumes nothing.
-use borrow.Author.Rules.{rules}
 use Rattle.step.proofs.step.process_inside.Goals as goal
 
 pub returns-in-Closes : goal.returns-in-Closes

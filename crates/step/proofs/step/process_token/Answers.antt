@@ -1,6 +1,5 @@
 -- Each arm is the definition at that type: `search` puts the type that the token has into the definition, and finds what the call ensures.
 -- Assumes nothing.
-use borrow.Author.Rules.{rules}
 use Rattle.step.proofs.step.process_token.Goals as goal
 
 pub returns-in-Note : goal.returns-in-Note

@@ -1,6 +1,5 @@
 -- By whether it is 6/9, and by the note behind.
 -- Assumes nothing.
-use borrow.Author.Rules.{rules}
 use Rattle.step.proofs.step.slash.Goals as goal
 
 pub returns-then-is_six_nine : goal.returns-then-is_six_nine

@@ -1,16 +1,13 @@
 -- The invariant: what was counted and what is still to be counted make the count.
 -- Assumes nothing.
-use Prim.Native.Nat.{ℕ, ◌-◌, ◌≤◌, ◌<◌, ◌+◌}
+use Prim.Native.Nat.{ℕ, ◌-◌}
 use Rattle.expression.specs.Expression.{exp_of}
 use Rattle.validator.proofs.Arrays.{one_or_none}
-use Rattle.validator.proofs.Walks.{exps_from, count-step, count-end}
-use Rattle.validator.specs.State.{counts_of}
-use Rattle.validator.specs.Validator.{times_of, priority_of}
-use borrow.Author.Rules.{rules}
+use Rattle.validator.proofs.Walks.{count-step, count-end}
+use Rattle.validator.specs.Validator.{priority_of}
 use lib.Dec.{eqb}
-use lib.ListN.{length, get_or}
+use lib.ListN.{get_or}
 use mathlib.Core.Bool.{cond}
-use mathlib.Core.List.{map}
 use mathlib.Core.Path.{◌≡◌, ap, ◌∙◌}
 use native.Mathlib.Omega.{arith}
 use Rattle.validator.proofs.expressions.count.Goals as goal

@@ -2,17 +2,12 @@
 -- Assumes nothing.
 use Prim.Native.Nat.{ℕ, ◌-◌, ◌≤◌, ◌<◌, ◌+◌}
 use Rattle.expression.specs.Expression.{exp_of}
-use Rattle.validator.proofs.Arrays.{one_or_none}
-use Rattle.validator.proofs.Walks.{exps_from, count-step, count-end}
+use Rattle.validator.proofs.Walks.{exps_from}
 use Rattle.validator.specs.State.{counts_of}
-use Rattle.validator.specs.Validator.{times_of, priority_of}
-use borrow.Author.Rules.{rules}
-use lib.Dec.{eqb}
-use lib.ListN.{length, get_or}
-use mathlib.Core.Bool.{cond}
+use Rattle.validator.specs.Validator.{times_of}
+use lib.ListN.{length}
 use mathlib.Core.List.{map}
-use mathlib.Core.Path.{◌≡◌, ap, ◌∙◌}
-use native.Mathlib.Omega.{arith}
+use mathlib.Core.Path.{◌≡◌}
 use Rattle.validator.proofs.expressions.count.Given as goal
 
 abbrev pub invariant-loop-i : goal.invariant-loop-i

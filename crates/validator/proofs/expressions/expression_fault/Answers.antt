@@ -3,7 +3,6 @@
 use Rattle.expression.specs.Expression.{exp_of}
 use Rattle.validator.proofs.Choices.{found, passed}
 use Rattle.validator.specs.Validator.{repeated}
-use borrow.Author.Rules.{rules}
 use mathlib.Core.List.{map}
 use mathlib.Core.Path.{sym, ◌∙◌}
 use Rattle.validator.proofs.expressions.expression_fault.Goals as goal

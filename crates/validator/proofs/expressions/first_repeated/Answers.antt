@@ -1,13 +1,12 @@
 -- The invariant: the first that repeats from p on is the first that repeats.
 -- Assumes nothing.
-use Prim.Native.Nat.{ℕ, ◌-◌, ◌≤◌, ◌+◌}
+use Prim.Native.Nat.{ℕ, ◌-◌, ◌+◌}
 use Rattle.expression.specs.Expression.{exp_of}
 use Rattle.expression.specs.declared.parser_error.ParserError.TheVariants.{DuplicateModifier}
 use Rattle.validator.proofs.Choices.{found, passed}
 use Rattle.validator.proofs.Walks.{first_step, first_end}
 use Rattle.validator.specs.State.{error_of}
-use Rattle.validator.specs.Validator.{times_of, first_from, only, repeated, repeated_at}
-use borrow.Author.Rules.{rules}
+use Rattle.validator.specs.Validator.{times_of, first_from, only, repeated_at}
 use lib.Dec.{ltb}
 use mathlib.Core.List.{map}
 use mathlib.Core.Path.{◌≡◌, refl, sym, ap, ◌∙◌}

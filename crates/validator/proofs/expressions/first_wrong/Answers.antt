@@ -1,14 +1,10 @@
 -- The invariant: what is found from here on is what is found at all.
 -- Assumes nothing.
-use Prim.Native.Nat.{◌-◌, ◌≤◌, ◌+◌}
-use Rattle.expression.specs.Expression.{exp_of}
+use Prim.Native.Nat.{◌-◌, ◌+◌}
 use Rattle.validator.proofs.Choices.{found, passed}
 use Rattle.validator.proofs.Walks.{exps_from, wrong_step, wrong_end}
 use Rattle.validator.specs.Validator.{first_wrong, wrong_of}
-use borrow.Author.Rules.{rules}
-use lib.ListN.{length}
-use mathlib.Core.List.{map}
-use mathlib.Core.Path.{◌≡◌, refl, sym, ap, ◌∙◌}
+use mathlib.Core.Path.{refl, sym, ap, ◌∙◌}
 use native.Mathlib.Omega.{arith}
 use Rattle.validator.proofs.expressions.first_wrong.Goals as goal
 

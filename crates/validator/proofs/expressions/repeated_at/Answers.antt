@@ -1,7 +1,6 @@
 -- The test of the definition, at the count that stands there.
 -- Assumes nothing.
 use Rattle.validator.specs.State.{counts_of}
-use borrow.Author.Rules.{rules}
 use Rattle.validator.proofs.expressions.repeated_at.Goals as goal
 
 pub returns : goal.returns

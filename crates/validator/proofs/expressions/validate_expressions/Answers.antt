@@ -1,7 +1,6 @@
 -- The error that was found is written.
 -- Assumes nothing.
 use Rattle.expression.proofs.Wrote.{wrote_as}
-use borrow.Author.Rules.{rules}
 use Rattle.validator.proofs.expressions.validate_expressions.Goals as goal
 
 pub returns : goal.returns

@@ -1,7 +1,6 @@
 -- Each arm is the definition at that expression.
 -- Assumes nothing.
 use Rattle.validator.specs.Validator.{wrong_of}
-use borrow.Author.Rules.{rules}
 use mathlib.Core.Path.{ap}
 use Rattle.validator.proofs.expressions.wrong_of.Goals as goal
 

@@ -5,7 +5,6 @@ use Rattle.intervals.specs.Stored.{members}
 use Rattle.expression.specs.declared.parser_error.ParserError.TheVariants.{InconsistentExtension}
 use Rattle.validator.proofs.Arrays.{below}
 use Rattle.validator.specs.Validator.{reported, others, only}
-use borrow.Author.Rules.{rules}
 use lib.ListN.{get_or}
 use mathlib.Core.Bool.{Bool, ◌&&◌}
 use mathlib.Core.Path.{sym, ap, ◌∙◌}

@@ -4,7 +4,6 @@ use Rattle.intervals.specs.Stored.{members}
 use Rattle.intervals.specs.Interval.{semitones}
 use Rattle.expression.specs.declared.parser_error.ParserError.TheVariants.{DuplicateExtension, InvalidExtension}
 use Rattle.validator.specs.Validator.{only}
-use borrow.Author.Rules.{rules}
 use mathlib.Core.Bool.{Bool, cond}
 use mathlib.Core.List.{[], ◌∷◌}
 use mathlib.Core.Path.{sym, ap, ◌∙◌}

@@ -2,7 +2,6 @@
 -- Assumes nothing.
 use Rattle.intervals.specs.Stored.{members}
 use Rattle.validator.specs.Validator.{fault_of}
-use borrow.Author.Rules.{rules}
 use mathlib.Core.Path.{sym, ap, ◌∙◌}
 use Rattle.validator.proofs.extensions.fault_of.Goals as goal
 

@@ -1,17 +1,14 @@
 -- The invariant: what is found from here on, with what was seen, is what is found at all.
 -- Assumes nothing.
-use Prim.Native.Nat.{◌-◌, ◌≤◌, ◌+◌}
+use Prim.Native.Nat.{◌-◌, ◌≤◌}
 use Rattle.intervals.specs.Stored.{members}
-use Rattle.intervals.specs.Interval.{Set, empty}
+use Rattle.intervals.specs.Interval.{empty}
 use Rattle.expression.specs.Expression.{exp_of}
-use Rattle.validator.proofs.Choices.{found, passed}
-use Rattle.validator.proofs.Walks.{exps_from, fault_step, fault_end}
-use Rattle.validator.specs.Validator.{extension_fault, fault_of, seeing}
-use borrow.Author.Rules.{rules}
-use lib.ListN.{length, get_or}
+use Rattle.validator.proofs.Walks.{exps_from}
+use Rattle.validator.specs.Validator.{extension_fault}
+use lib.ListN.{length}
 use mathlib.Core.List.{map}
-use mathlib.Core.Path.{◌≡◌, sym, ap, ◌∙◌}
-use native.Mathlib.Omega.{arith}
+use mathlib.Core.Path.{◌≡◌}
 use Rattle.validator.proofs.extensions.first_fault.Given as goal
 
 abbrev pub invariant-loop-i : goal.invariant-loop-i

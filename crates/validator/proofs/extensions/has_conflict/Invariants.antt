@@ -1,14 +1,9 @@
 -- The invariant: whether there is no error from here on is whether there is none at all.
 -- Assumes nothing.
-use mathlib.Core.Bool.{not}
-use mathlib.Core.Path.{◌≡◌, refl, sym, ap, ◌∙◌}
-use Prim.Native.Nat.{◌-◌, ◌≤◌, ◌+◌}
-use native.Mathlib.Omega.{arith}
-use borrow.Author.Rules.{rules}
+use mathlib.Core.Path.{◌≡◌}
+use Prim.Native.Nat.{◌-◌, ◌≤◌}
 use Rattle.intervals.specs.Stored.{members}
 use Rattle.validator.specs.Validator.{all_from, conflict_at, is_nil}
-use Rattle.validator.proofs.Choices.{none_found, some-found}
-use Rattle.validator.proofs.Walks.{all_end, all-next}
 use Rattle.validator.proofs.extensions.has_conflict.Given as goal
 
 abbrev pub invariant-loop-i : goal.invariant-loop-i

@@ -2,14 +2,10 @@
 -- Assumes nothing.
 use Prim.Native.Nat.{◌-◌, ◌≤◌, ◌+◌}
 use Rattle.intervals.specs.Stored.{members}
-use Rattle.expression.proofs.Wrote.{wrote_none, wrote_then, wrote_as}
-use Rattle.validator.proofs.Walks.{all_start, all-step}
 use Rattle.expression.specs.State.{Wrote}
 use Rattle.validator.specs.Validator.{all_from, conflict_at}
-use borrow.Author.Rules.{rules}
 use lib.ListN.{length}
-use mathlib.Core.Path.{◌≡◌, refl, ap}
-use native.Mathlib.Omega.{arith}
+use mathlib.Core.Path.{◌≡◌}
 use Rattle.validator.proofs.extensions.push_conflicts.Given as goal
 
 abbrev pub invariant-loop-i : goal.invariant-loop-i

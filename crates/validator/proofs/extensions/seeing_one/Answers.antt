@@ -3,7 +3,6 @@
 use Rattle.intervals.specs.Stored.{members}
 use Rattle.intervals.specs.Interval.{insert}
 use Rattle.validator.specs.Validator.{seeing}
-use borrow.Author.Rules.{rules}
 use mathlib.Core.Path.{sym, ap, ◌∙◌}
 use Rattle.validator.proofs.extensions.seeing_one.Goals as goal
 

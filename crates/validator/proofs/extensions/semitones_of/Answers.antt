@@ -2,7 +2,6 @@
 -- Assumes nothing.
 use Rattle.intervals.specs.Interval.{table}
 use Rattle.validator.proofs.Arrays.{below}
-use borrow.Author.Rules.{rules}
 use lib.ListN.{get_or-eq_default}
 use mathlib.Core.Path.{sym}
 use native.Mathlib.Omega.{arith}

@@ -4,7 +4,6 @@ use Rattle.intervals.specs.Stored.{members}
 use Rattle.validator.proofs.Choices.{found, passed}
 use Rattle.expression.proofs.Wrote.{wrote_as}
 use Rattle.validator.specs.Validator.{all_from, conflict_at}
-use borrow.Author.Rules.{rules}
 use mathlib.Core.Path.{sym, ◌∙◌}
 use native.Mathlib.Omega.{arith}
 use Rattle.validator.proofs.extensions.validate_extensions.Goals as goal

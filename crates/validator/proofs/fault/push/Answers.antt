@@ -2,7 +2,6 @@
 -- Assumes nothing.
 use Rattle.expression.proofs.Wrote.{wrote_none, wrote_one, wrote_as}
 use Rattle.validator.specs.State.{error_of}
-use borrow.Author.Rules.{rules}
 use mathlib.Core.Path.{sym, ap}
 use native.Mathlib.Omega.{arith}
 use Rattle.validator.proofs.fault.push.Goals as goal

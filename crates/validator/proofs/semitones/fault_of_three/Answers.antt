@@ -1,6 +1,5 @@
 -- What the calls ensure, the last one first.
 -- Assumes nothing.
-use borrow.Author.Rules.{rules}
 use Rattle.validator.proofs.semitones.fault_of_three.Goals as goal
 
 pub returns : goal.returns

@@ -1,10 +1,9 @@
 -- The invariant: whether there is no error from here on is whether there is none at all.
 -- Assumes nothing.
 use mathlib.Core.Bool.{not}
-use mathlib.Core.Path.{◌≡◌, refl, sym, ap, ◌∙◌}
-use Prim.Native.Nat.{◌-◌, ◌≤◌, ◌+◌}
+use mathlib.Core.Path.{refl, sym, ap, ◌∙◌}
+use Prim.Native.Nat.{◌-◌, ◌+◌}
 use native.Mathlib.Omega.{arith}
-use borrow.Author.Rules.{rules}
 use Rattle.intervals.specs.Stored.{members}
 use Rattle.validator.specs.Validator.{all_from, is_nil}
 use Rattle.validator.specs.State.{lasts_of, neighbours_in}

@@ -1,16 +1,11 @@
 -- The invariant: the errors of the classes below c are written.
 -- Assumes nothing.
-use Prim.Native.Nat.{ℕ, ◌-◌, ◌≤◌, ◌+◌}
-use Rattle.intervals.specs.Stored.{members}
-use Rattle.expression.proofs.Wrote.{wrote_none, wrote_then, wrote_as}
-use Rattle.validator.proofs.Walks.{all_start, all-step, semitones-same}
+use Prim.Native.Nat.{◌-◌, ◌≤◌, ◌+◌}
 use Rattle.expression.specs.State.{Wrote}
 use Rattle.validator.specs.State.{lasts_of, neighbours_in}
 use Rattle.validator.specs.Validator.{all_from}
-use borrow.Author.Rules.{rules}
 use lib.ListN.{length}
-use mathlib.Core.Path.{◌≡◌, refl, ap, ◌∙◌}
-use native.Mathlib.Omega.{arith}
+use mathlib.Core.Path.{◌≡◌}
 use Rattle.validator.proofs.semitones.validate_semitones.Given as goal
 
 abbrev pub invariant-loop-c : goal.invariant-loop-c

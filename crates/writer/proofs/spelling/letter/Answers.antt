@@ -1,6 +1,5 @@
 -- Each letter's text is its byte.
 -- Assumes nothing.
-use borrow.Author.Rules.{rules}
 use mathlib.Core.Path.{sym, ap}
 use Rattle.house_text.specs.Spelling.{letter_text}
 use Rattle.writer.proofs.spelling.letter.Goals as goal

@@ -3,7 +3,6 @@
 use mathlib.Core.Path.{sym, ap}
 use native.Mathlib.Omega.{arith}
 use lib.ListN.{length}
-use borrow.Author.Rules.{rules}
 use Rattle.writer.proofs.Puts.{put-none, put_then, put_as}
 use Rattle.writer.specs.State.{bass_text}
 use Rattle.writer.proofs.spelling.put_bass.Goals as goal

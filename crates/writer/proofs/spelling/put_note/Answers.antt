@@ -3,7 +3,6 @@
 use mathlib.Core.Path.{ap}
 use native.Mathlib.Omega.{arith}
 use lib.ListN.{length, length-append}
-use borrow.Author.Rules.{rules}
 use Rattle.house_text.specs.Spelling.{letter_text, sign_text}
 use Rattle.writer.proofs.Puts.{put_then, put_as}
 use Rattle.writer.proofs.spelling.put_note.Goals as goal

@@ -3,7 +3,6 @@
 use mathlib.Core.Path.{sym, ap, ◌∙◌}
 use native.Mathlib.Omega.{arith}
 use lib.ListN.{length}
-use borrow.Author.Rules.{rules}
 use Rattle.intervals.specs.Stored.{members}
 use Rattle.note.specs.declared.OptionalNote.TheVariants.{None}
 use Rattle.writer.proofs.Parts.{part-named, part_unnamed}

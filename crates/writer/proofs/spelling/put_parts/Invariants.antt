@@ -1,12 +1,8 @@
 -- The invariant: what the first i parts write stands behind the first n bytes of the buffer.
 -- Assumes nothing.
-use mathlib.Core.Path.{◌≡◌, sym, ap, ◌∙◌}
-use Prim.Native.Nat.{ℕ, ◌-◌, ◌≤◌}
-use native.Mathlib.Omega.{arith}
-use borrow.Author.Rules.{rules}
+use Prim.Native.Nat.{◌-◌, ◌≤◌}
 use Rattle.intervals.specs.Stored.{members}
-use Rattle.writer.proofs.Parts.{so_far, so_far_none, so_far_some, so_far_all, next-part, next-room}
-use Rattle.writer.proofs.Puts.{put-none, put_then, put_as, put-length}
+use Rattle.writer.proofs.Parts.{so_far}
 use Rattle.writer.specs.State.{Put}
 use Rattle.writer.proofs.spelling.put_parts.Given as goal
 

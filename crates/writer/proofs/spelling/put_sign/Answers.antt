@@ -3,7 +3,6 @@
 use mathlib.Core.Path.{sym, ap}
 use native.Mathlib.Omega.{arith}
 use lib.ListN.{length}
-use borrow.Author.Rules.{rules}
 use Rattle.house_text.specs.Spelling.{sign_text}
 use Rattle.writer.proofs.Puts.{put_as, put-none}
 use Rattle.writer.proofs.spelling.put_sign.Goals as goal

@@ -2,7 +2,6 @@
 -- Assumes nothing.
 use mathlib.Core.Path.{refl, sym}
 use native.Mathlib.Omega.{arith}
-use borrow.Author.Rules.{rules}
 use Rattle.intervals.specs.Stored.{members}
 use Rattle.writer.proofs.Parts.{note_room, parts-room, spell-room, spell-parts}
 use Rattle.writer.proofs.Puts.{put_then, put_as, put-length}

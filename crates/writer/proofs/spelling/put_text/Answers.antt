@@ -2,14 +2,13 @@
 -- Assumes nothing.
 use mathlib.Core.List.{[], ◌∷◌}
 use mathlib.Core.Path.{◌≡◌, ap, ◌∙◌}
-use Prim.Native.Nat.{ℕ, ◌-◌, ◌≤◌, ◌<◌}
+use Prim.Native.Nat.{ℕ, ◌-◌, ◌<◌}
 use native.Mathlib.Omega.{arith}
 use lib.ListN.{length, take}
 use lib.Seq.{length-take-le, take_all}
-use borrow.Author.Rules.{rules}
 use Rattle.writer.proofs.Parts.{text_fits, size_is, byte_is}
 use Rattle.writer.proofs.Puts.{put-none, put_as, put_next, put-length}
-use Rattle.writer.specs.State.{Put, text_at}
+use Rattle.writer.specs.State.{text_at}
 use Rattle.writer.proofs.spelling.put_text.Goals as goal
 
 pub overflow_cast-len : goal.overflow_cast-len

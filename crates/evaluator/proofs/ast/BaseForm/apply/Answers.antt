@@ -1,6 +1,5 @@
 -- Each arm is the definition at that form.
 -- Assumes nothing.
-use borrow.Author.Rules.{rules}
 use Rattle.evaluator.proofs.ast.BaseForm.apply.Goals as goal
 
 pub returns-in-Major : goal.returns-in-Major

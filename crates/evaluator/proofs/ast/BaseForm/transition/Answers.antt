@@ -1,6 +1,5 @@
 -- By which priority is higher.
 -- Assumes nothing.
-use borrow.Author.Rules.{rules}
 use borrow.Author.Tests.{le-leb, lt-leb}
 use Rattle.evaluator.proofs.ast.BaseForm.transition.Goals as goal
 

@@ -1,7 +1,6 @@
 -- A comma makes a group active.
 -- Assumes nothing.
 use mathlib.Core.Path.{sym, ap}
-use borrow.Author.Rules.{rules}
 use Rattle.step.specs.Context.{on_comma}
 use Rattle.step.proofs.context.Context.on_comma.Goals as goal
 

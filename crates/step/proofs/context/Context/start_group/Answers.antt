@@ -1,6 +1,5 @@
 -- By whether a bracket is open.
 -- Assumes nothing.
-use borrow.Author.Rules.{rules}
 use Rattle.step.proofs.context.Context.start_group.Goals as goal
 
 pub returns-then-inside : goal.returns-then-inside

@@ -1,7 +1,6 @@
 -- Each arm is the definition at that kind.
 -- Assumes nothing.
 use mathlib.Core.Path.{sym, ap}
-use borrow.Author.Rules.{rules}
 use Rattle.step.specs.Context.{member_of}
 use Rattle.step.proofs.context.GroupKind.member.Goals as goal
 

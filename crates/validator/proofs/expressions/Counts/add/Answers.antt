@@ -1,8 +1,7 @@
 -- One store, where the priority is counted.
 -- Assumes nothing.
-use Rattle.validator.proofs.Arrays.{more-at, none_more, sized}
+use Rattle.validator.proofs.Arrays.{more-at, none_more}
 use Rattle.validator.specs.State.{counts_of}
-use borrow.Author.Rules.{rules}
 use borrow.Author.Tests.{ne_eqb}
 use lib.ListN.{length}
 use mathlib.Core.Path.{◌≡◌}
