@@ -1,2 +1,0 @@
-pub mod Newlines
-pub mod Steps
