@@ -2,7 +2,6 @@
 -- Assumes nothing.
 use native.Mathlib.Nat.{le_trans}
 use native.Mathlib.Omega.{arith}
-use borrow.Author.Rules.{rules}
 use Rattle.lexer.proofs.Ranges.{scanned_short}
 use Rattle.tokens.proofs.put_answer.Goals as goal
 
