@@ -1,7 +1,6 @@
 -- The measure is what is left.
 -- Assumes nothing.
 use Prim.Native.Nat.{◌-◌, ◌≤◌}
-use borrow.Author.Rules.{rules}
 use Rattle.show.proofs.chords.with_set.Given as goal
 
 abbrev pub invariant-loop-i : goal.invariant-loop-i

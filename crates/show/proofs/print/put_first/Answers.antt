@@ -2,8 +2,7 @@
 -- Assumes nothing.
 use mathlib.Core.Path.{sym}
 use lib.Seq.{length-take-le}
-use borrow.Author.Rules.{rules}
 use Rattle.show.proofs.print.put_first.Goals as goal
 
 pub slice_bounds-put-end : goal.slice_bounds-put-end
-slice_bounds-put-end c = sym (length-take-le c.args.n c.args.bytes.now c.if-n-bytes.true)
+slice_bounds-put-end g c = sym (length-take-le c.args.n c.args.bytes.now c.if-n-bytes.true)

@@ -1,8 +1,7 @@
 -- The bar of a step lies in the line.
 -- Assumes nothing.
-use borrow.Author.Rules.{rules}
 use Rattle.song.proofs.Laws.{step-within}
 use Rattle.show.proofs.songs.show_step.Goals as goal
 
 pub put_step-requires : goal.put_step-requires
-put_step-requires c = step-within c.step_at-s.ensures
+put_step-requires g c = step-within c.step_at-s.ensures
