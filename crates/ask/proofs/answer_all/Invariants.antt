@@ -1,9 +1,6 @@
 -- The state lies inside the two buffers at each turn; the measure is the count of calls that may follow.
 -- Assumes nothing.
-use mathlib.Core.Path.{◌≡◌, refl}
-use lib.ListN.{length}
 use Rattle.lines.specs.Input.{Inside}
-use borrow.Author.Rules.{rules}
 use Rattle.ask.proofs.answer_all.Given as goal
 
 abbrev pub invariant-loop-s : goal.invariant-loop-s

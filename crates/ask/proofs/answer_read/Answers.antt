@@ -2,7 +2,6 @@
 -- Assumes nothing.
 use mathlib.Core.Path.{sym}
 use lib.Seq.{length-take-le}
-use borrow.Author.Rules.{rules}
 use Rattle.ask.proofs.answer_read.Goals as goal
 
 pub slice_bounds-put_read-end-2 : goal.slice_bounds-put_read-end-2

@@ -2,8 +2,7 @@
 -- Assumes nothing.
 use mathlib.Core.Path.{sym}
 use lib.Seq.{length-take-le}
-use borrow.Author.Rules.{rules}
 use Rattle.ask.proofs.answer_step.Goals as goal
 
 pub slice_bounds-put_step-end-2 : goal.slice_bounds-put_step-end-2
-slice_bounds-put_step-end-2 c = sym (length-take-le _ _ c.at_most-n.ensures)
+slice_bounds-put_step-end-2 g c = sym (length-take-le _ _ c.at_most-n.ensures)

@@ -1,7 +1,6 @@
 -- The count is at most the number of intervals passed; the measure is what is left of the 23.
 -- Assumes nothing.
 use Prim.Native.Nat.{◌-◌, ◌≤◌}
-use borrow.Author.Rules.{rules}
 use Rattle.ask.proofs.answer.count.Given as goal
 
 abbrev pub invariant-loop-i : goal.invariant-loop-i

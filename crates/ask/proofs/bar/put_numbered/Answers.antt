@@ -1,6 +1,5 @@
 -- The bar lies in its line.
 -- Assumes nothing.
-use borrow.Author.Rules.{rules}
 use Rattle.endings.proofs.Spots.{spot-ordered}
 use Rattle.ask.proofs.bar.put_numbered.Goals as goal
 

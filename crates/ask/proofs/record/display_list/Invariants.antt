@@ -1,6 +1,5 @@
 -- The measure is the count of numbers that are left.
 -- Assumes nothing.
-use borrow.Author.Rules.{rules}
 use Rattle.ask.proofs.record.display_list.Given as goal
 
 abbrev pub invariant-loop-left : goal.invariant-loop-left

@@ -2,7 +2,6 @@
 -- Assumes nothing.
 use mathlib.Core.Path.{sym}
 use lib.Seq.{length-take-le}
-use borrow.Author.Rules.{rules}
 use Rattle.ask.proofs.sounding.put_messages.Goals as goal
 
 pub slice_bounds-put_pairs-end : goal.slice_bounds-put_pairs-end
