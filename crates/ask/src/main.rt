@@ -8,7 +8,7 @@
 #![tactic(auto)]
 
 ghost use Rattle.std.specs.Prelude.{◌≤◌};
-ghost use Rattle.io.specs.Counts.{IsPrefixLen};
+ghost use Rattle.output.specs.Counts.{IsPrefixLen};
 
 mod answer;
 mod bar;
@@ -26,6 +26,8 @@ use lines::Input;
 use number::{Number, behind_space, next_number};
 use record::next_record;
 use sounding::{Said, put_change};
+use std::io;
+use std::io::{Read, Write};
 use steps::{put_song, put_step};
 
 // A LIST above this counts as this.
@@ -95,40 +97,51 @@ fn answer_write(out: &mut [u8], used: usize, line: &[u8]) -> usize {
         return put_fault(out, used, fault);
     }
     let n = at_most(size.value, LARGEST_BUFFER);
-    let mut buffer = io::buffer();
+    let mut buffer = [0u8; 4096];
     put_written(out, used, record, &mut buffer[..n])
 }
 
 // Answers `step LIST POSITION LINE`.
-fn answer_step(out: &mut [u8], used: usize, line: &[u8]) -> usize {
+fn answer_step<W: Write>(
+    to: &mut W,
+    out: &mut [u8],
+    used: usize,
+    line: &[u8],
+) -> io::Result<usize> {
     let list = next_number(line, 4);
     let missing = list.fault;
     if is_missing(missing) {
-        return put_fault(out, used, missing);
+        return Ok(put_fault(out, used, missing));
     }
     let position = next_number(line, list.at);
     let fault = position.fault;
     if !fault.is_nothing() {
-        return put_fault(out, used, fault);
+        return Ok(put_fault(out, used, fault));
     }
     let n = at_most(list.value, LONGEST_LIST);
     let from = behind_space(line, position.at);
     let mut errs = [0u16; 1028];
     let p = put_step(
+        to,
         out,
         used,
         &line[from..],
         position.value as usize,
         &mut errs[..n],
-    );
-    p.used
+    )?;
+    Ok(p.used)
 }
 
 // Answers `song LINE`.
-fn answer_song(out: &mut [u8], used: usize, line: &[u8]) -> usize {
+fn answer_song<W: Write>(
+    to: &mut W,
+    out: &mut [u8],
+    used: usize,
+    line: &[u8],
+) -> io::Result<usize> {
     let from = behind_space(line, 4);
     let mut errs = [0u16; 1028];
-    put_song(out, used, &line[from..], &mut errs)
+    put_song(to, out, used, &line[from..], &mut errs)
 }
 
 // Answers `bar K LENGTH BYTES`. The first number that is wrong makes the line no question, and so does a LENGTH above the count of bytes.
@@ -195,7 +208,7 @@ fn answer_midi(out: &mut [u8], used: usize, line: &[u8], keys: Keys) -> Said {
         return Said { used: u, keys };
     }
     let n = at_most(room.value, LARGEST_BUFFER);
-    let mut buffer = io::buffer();
+    let mut buffer = [0u8; 4096];
     put_change(
         out,
         used,
@@ -222,29 +235,29 @@ fn asks(line: &[u8], word: &[u8]) -> bool {
 }
 
 // Answers a line that does not ask for `midi`.
-fn put_answer(out: &mut [u8], used: usize, line: &[u8]) -> usize {
+fn put_answer<W: Write>(to: &mut W, out: &mut [u8], used: usize, line: &[u8]) -> io::Result<usize> {
     if LONGEST_LINE < line.len() {
-        return put_fault(out, used, Fault::LongLine);
+        return Ok(put_fault(out, used, Fault::LongLine));
     }
     if asks(line, b"read") {
-        return answer_read(out, used, line);
+        return Ok(answer_read(out, used, line));
     }
     if asks(line, b"spell") {
-        return answer_spell(out, used, line);
+        return Ok(answer_spell(out, used, line));
     }
     if asks(line, b"write") {
-        return answer_write(out, used, line);
+        return Ok(answer_write(out, used, line));
     }
     if asks(line, b"step") {
-        return answer_step(out, used, line);
+        return answer_step(to, out, used, line);
     }
     if asks(line, b"song") {
-        return answer_song(out, used, line);
+        return answer_song(to, out, used, line);
     }
     if asks(line, b"bar") {
-        return answer_bar(out, used, line);
+        return Ok(answer_bar(out, used, line));
     }
-    put_fault(out, used, Fault::NoQuestion)
+    Ok(put_fault(out, used, Fault::NoQuestion))
 }
 
 // Does the line ask for `midi`? One that is too long asks for nothing.
@@ -264,64 +277,89 @@ fn is_silence(line: &[u8]) -> bool {
 }
 
 // Answers a line. Only `midi` changes the keys that sound.
-fn answered(out: &mut [u8], used: usize, line: &[u8], keys: Keys) -> Said {
+fn answered<W: Write>(
+    to: &mut W,
+    out: &mut [u8],
+    used: usize,
+    line: &[u8],
+    keys: Keys,
+) -> io::Result<Said> {
     if is_silence(line) {
         let u = output::put_bytes(out, used, b"0 0");
-        return Said {
+        return Ok(Said {
             used: u,
             keys: Keys::new(),
-        };
+        });
     }
     if is_midi(line) {
-        return answer_midi(out, used, line, keys);
+        return Ok(answer_midi(out, used, line, keys));
     }
-    let u = put_answer(out, used, line);
-    Said { used: u, keys }
+    let u = put_answer(to, out, used, line)?;
+    Ok(Said { used: u, keys })
 }
 
 // Appends the answer to a line that is ready.
-fn answer_line(out: &mut [u8], said: Said, line: &[u8], s: Input) -> Said
+fn answer_line<W: Write>(
+    to: &mut W,
+    out: &mut [u8],
+    said: Said,
+    line: &[u8],
+    s: Input,
+) -> io::Result<Said>
     requires { IsPrefixLen s.len line.now }
 {
     if !s.ready {
-        return said;
+        return Ok(said);
     }
     let len = s.len;
     let before = said.keys;
-    let u = output::room(out, said.used, HALF);
-    let a = answered(out, u, &line[..len], before);
+    let u = output::room(to, out, said.used, HALF)?;
+    let a = answered(to, out, u, &line[..len], before)?;
     let keys = a.keys;
     let used = output::put(out, a.used, b'\n');
-    Said { used, keys }
+    Ok(Said { used, keys })
 }
 
 // Writes what waits where the block has no bytes left, before the next is waited for.
-fn settled(out: &[u8], said: Said, s: Input) -> Said {
+fn settled<W: Write>(to: &mut W, out: &[u8], said: Said, s: Input) -> io::Result<Said> {
     if s.at < s.end {
-        return said;
+        return Ok(said);
     }
     let keys = said.keys;
-    let used = output::flush(out, said.used);
-    Said { used, keys }
+    let used = output::flush(to, out, said.used)?;
+    Ok(Said { used, keys })
 }
 
-// Answers every line of standard input.
-fn answer_all(out: &mut [u8], line: &mut [u8], block: &mut [u8]) {
+// Answers every line of the input.
+fn answer_all<R: Read, W: Write>(
+    from: &mut R,
+    to: &mut W,
+    out: &mut [u8],
+    line: &mut [u8],
+    block: &mut [u8],
+) -> io::Result<()> {
     let mut s = lines::start();
     let mut said = Said {
         used: 0,
         keys: Keys::new(),
     };
     while 0 < s.left {
-        s = lines::next(block, line, s);
-        said = answer_line(out, said, line, s);
-        said = settled(out, said, s);
+        s = lines::next(from, block, line, s)?;
+        said = answer_line(to, out, said, line, s)?;
+        said = settled(to, out, said, s)?;
     }
+    Ok(())
 }
 
-fn main() {
-    let mut out = io::large_buffer();
+fn main(rt: HostRuntime) -> io::Result<()> {
+    let mut out = [0u8; 65536];
     let mut line = [0u8; 16385];
-    let mut block = io::large_buffer();
-    answer_all(&mut out, &mut line, &mut block);
+    let mut block = [0u8; 65536];
+    answer_all(
+        &mut rt.stdin(),
+        &mut rt.stdout(),
+        &mut out,
+        &mut line,
+        &mut block,
+    )
 }

@@ -4,6 +4,8 @@ ghost use Rattle.std.specs.Prelude.{◌≤◌};
 use crate::answer::{HALF, put_next, put_reading};
 use reader::Reading;
 use song::Step;
+use std::io;
+use std::io::Write;
 
 // A line has 4,097 bars at most, and the step behind the last says end.
 const MOST_STEPS: u64 = 4098;
@@ -41,34 +43,41 @@ fn put_said(out: &mut [u8], used: usize, step: Step, errs: &[u16]) -> usize
 }
 
 // Takes the step at a position with a lent list, makes room for its answer, and appends it.
-pub(crate) fn put_step(
+pub(crate) fn put_step<W: Write>(
+    to: &mut W,
     out: &mut [u8],
     used: usize,
     line: &[u8],
     at: usize,
     errs: &mut [u16],
-) -> Printed {
+) -> io::Result<Printed> {
     let s = song::step_at(line, at, errs);
     let next = s.next;
-    let u = output::room(out, used, HALF);
+    let u = output::room(to, out, used, HALF)?;
     let v = output::put_number(out, u, next as u64, 0);
     let w = put_said(out, v, s, errs);
-    Printed { used: w, at: next }
+    Ok(Printed { used: w, at: next })
 }
 
 // Appends the steps from the line's start on, a line each. The first that stays where it is, with end or 8, is the last.
-pub(crate) fn put_song(out: &mut [u8], used: usize, line: &[u8], errs: &mut [u16]) -> usize {
+pub(crate) fn put_song<W: Write>(
+    to: &mut W,
+    out: &mut [u8],
+    used: usize,
+    line: &[u8],
+    errs: &mut [u16],
+) -> io::Result<usize> {
     let mut u = used;
     let mut at = 0;
     let mut left = MOST_STEPS;
     while 0 < left {
-        let p = put_step(out, u, line, at, errs);
+        let p = put_step(to, out, u, line, at, errs)?;
         if p.at == at {
-            return p.used;
+            return Ok(p.used);
         }
         u = output::put(out, p.used, b'\n');
         at = p.at;
         left -= 1;
     }
-    u
+    Ok(u)
 }

@@ -1,2 +1,1 @@
 pub mod Newlines
-pub mod Steps

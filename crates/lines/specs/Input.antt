@@ -62,3 +62,9 @@ pub record Next (s r : Input) (block block' line line' : List ℕ) : Type 0 wher
   pub fewer : r.left < s.left
   pub took : s.at < s.end → (block' ≡ block) × Took s r block line line'
   pub read : s.at ≡ s.end → (line' ≡ line) × Read s r (length block')
+
+-- what a call of `next` that failed leaves: only a block was asked for, and the line and the state stand as they were
+pub record Failed (s : Input) (block' line line' : List ℕ) : Type 0 where
+  pub asked : s.at ≡ s.end
+  pub text : line' ≡ line
+  pub inside : Inside s block' line'

@@ -1,14 +1,14 @@
-// Lines of standard input, out of blocks. The caller lends a buffer for blocks and one for a line, and asks for the next line until no
-// call may follow: `while 0 < s.left { s = next(block, line, s); .. }`, where the first `s.len` bytes of `line` are a line if `s.ready`.
-// What the system reads cannot be said; all else is.
+// Lines of a reader, as standard input, out of blocks. The caller lends a buffer for blocks and one for a line, and asks for the next
+// line until no call may follow: `while 0 < s.left { s = next(from, block, line, s)?; .. }`, where the first `s.len` bytes of `line` are a
+// line if `s.ready`. What the system reads cannot be said; all else is.
 #![tactic(auto)]
 
-ghost use Rattle.std.specs.Prelude.{List, ◌≡◌, ℕ, ◌+◌, ◌≤◌, ◌<◌, length};
-ghost use Rattle.lines.specs.Input.{Inside, Next, Read, Took, kept as Input·kept, nothing_read, to_newline};
+ghost use Rattle.std.specs.Prelude.{List, ◌≡◌, ℕ, ◌+◌, ◌≤◌, ◌<◌, length, take, IfOk, OnOk, OnErr};
+ghost use Rattle.std.specs.Io.KnownBytes.{Consumes, Keeps};
+ghost use Rattle.lines.specs.Input.{Failed, Inside, Next, Read, Took, kept as Input·kept, nothing_read, to_newline};
 
 use output::put_bytes;
-
-const STDIN: i32 = 0;
+use std::io;
 
 // Where reading stands: the bytes of the block from `at` to `end` are not taken yet, and the first `len` bytes of the line's buffer are
 // those of the line so far, all of them once it is ready; then `lines` is its number, from 1. A proved loop has to end, so calls are
@@ -116,35 +116,46 @@ fn last(s: Input, len: usize) -> Input
 }
 
 // Reads the next block. At the end of the input a line without its newline is ready, if it has bytes.
-fn fill(block: &mut [u8], s: Input) -> Input
+fn fill<R: io::Read>(from: &mut R, block: &mut [u8], s: Input) -> io::Result<Input>
     requires { (0 < s.left) × (s.lines + s.left ≤ 18446744073709551615) }
-    ensures { Read s result (length block.new) }
+    ensures read { IfOk result (λ r. Read s r (length block.new)) }
+    ensures bytes { IfOk result (λ r. Consumes (R.remaining from.old) (R.remaining from.new) (take r.end block.new)) }
+    ensures none_lost { OnErr result (Keeps (R.remaining from.old) (R.remaining from.new)) }
 {
-    let got = libc::read(STDIN, block);
-    let n = io::count(got, block);
+    let n = from.read(block)?;
     let len = kept(s);
     if n == 0 {
-        return last(s, len);
+        return Ok(last(s, len));
     }
-    Input {
+    Ok(Input {
         at: 0,
         end: n,
         len,
         ready: false,
         lines: s.lines,
         left: s.left - 1,
-    }
+    })
 }
 
-// Takes the bytes up to the next newline or the end of the block; where there are none left, reads the next block.
-pub fn next(block: &mut [u8], line: &mut [u8], s: Input) -> Input
+// Takes the bytes up to the next newline or the end of the block; where there are none left, reads the next block. After an error of the
+// reader the same state may be passed again.
+pub fn next<R: io::Read>(
+    from: &mut R,
+    block: &mut [u8],
+    line: &mut [u8],
+    s: Input,
+) -> io::Result<Input>
     requires { Inside s block.old line.old × (0 < s.left) }
-    ensures { Next s result block.old block.new line.old line.new }
+    ensures next { IfOk result (λ r. Next s r block.old block.new line.old line.new) }
+    ensures bytes { s.at ≡ s.end → IfOk result (λ r. Consumes (R.remaining from.old) (R.remaining from.new) (take r.end block.new)) }
+    ensures unread { s.at < s.end → from.new ≡ from.old }
+    ensures failed { OnErr result (Failed s block.new line.old line.new) }
+    ensures none_lost { OnErr result (Keeps (R.remaining from.old) (R.remaining from.new)) }
 {
     let at = s.at;
     let end = s.end;
     if at < end {
-        return take(block, line, s);
+        return Ok(take(block, line, s));
     }
-    fill(block, s)
+    fill(from, block, s)
 }

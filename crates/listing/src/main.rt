@@ -5,13 +5,15 @@
 #![tactic(auto)]
 
 ghost use Rattle.std.specs.Prelude.{◌<◌, ◌≤◌};
-ghost use Rattle.io.specs.Counts.{IsPrefixLen};
+ghost use Rattle.output.specs.Counts.{IsPrefixLen};
 
 use chord::Chord;
 use intervals::{IntervalList, IntervalSet};
 use lines::Input;
 use note::{Note, OptionalNote, RootModifier};
 use reader::{Answer, Reading};
+use std::io;
+use std::io::{Read, Write};
 
 // Appends a number, right-justified in four columns.
 fn put_number(out: &mut [u8], used: usize, n: u64) -> usize {
@@ -167,34 +169,53 @@ fn put_answer(out: &mut [u8], used: usize, text: &[u8]) -> usize {
     put_reading(out, used, r, &errs)
 }
 
-// Appends the line of a text that is ready.
-fn answer(out: &mut [u8], used: usize, line: &[u8], s: Input) -> usize
+// Appends the line of a text that is ready, and writes what waits before where that is much.
+fn answer<W: Write>(
+    to: &mut W,
+    out: &mut [u8],
+    used: usize,
+    line: &[u8],
+    s: Input,
+) -> io::Result<usize>
     requires { IsPrefixLen s.len line.now }
 {
     if !s.ready {
-        return used;
+        return Ok(used);
     }
     let len = s.len;
-    let u = output::room(out, used, 32768);
+    let u = output::room(to, out, used, 32768)?;
     let v = put_number(out, u, s.lines);
     let w = put_answer(out, v, &line[..len]);
-    output::put(out, w, b'\n')
+    Ok(output::put(out, w, b'\n'))
 }
 
-// Answers every line of standard input.
-fn answer_all(out: &mut [u8], line: &mut [u8], block: &mut [u8]) {
+// Answers every line of the input.
+fn answer_all<R: Read, W: Write>(
+    from: &mut R,
+    to: &mut W,
+    out: &mut [u8],
+    line: &mut [u8],
+    block: &mut [u8],
+) -> io::Result<()> {
     let mut s = lines::start();
     let mut used = 0;
     while 0 < s.left {
-        s = lines::next(block, line, s);
-        used = answer(out, used, line, s);
+        s = lines::next(from, block, line, s)?;
+        used = answer(to, out, used, line, s)?;
     }
-    output::flush(out, used);
+    output::flush(to, out, used)?;
+    Ok(())
 }
 
-fn main() {
-    let mut out = io::large_buffer();
+fn main(rt: HostRuntime) -> io::Result<()> {
+    let mut out = [0u8; 65536];
     let mut line = [0u8; 257];
-    let mut block = io::large_buffer();
-    answer_all(&mut out, &mut line, &mut block);
+    let mut block = [0u8; 65536];
+    answer_all(
+        &mut rt.stdin(),
+        &mut rt.stdout(),
+        &mut out,
+        &mut line,
+        &mut block,
+    )
 }

@@ -1,1 +1,3 @@
+pub mod Counting
+pub mod Powers
 pub mod Puts

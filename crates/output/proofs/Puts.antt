@@ -24,15 +24,6 @@ sets_append l i (x ∷ s) t =
     let e : i + suc (length s) ≡ suc i + length s = omega arith in
     ap (λ (k : ℕ). sets (sets (set l i x) (suc i) s) k t) e ∙ sets_append (set l i x) (suc i) s t
 
-pub put-none : (n : ℕ) (b : List ℕ) → Put [] n n b b
-put-none n b = record { bytes = refl; count = omega arith }
-
-pub put_one : (n x : ℕ) (b : List ℕ) → n < length b → Put (x ∷ []) n (n + 1) b (set b n x)
-put_one n x b h = record { bytes = refl; count = omega arith }
-
-pub put_out : (n : ℕ) (t b : List ℕ) → length b ≤ n → Put t n n b b
-put_out n t b h = record { bytes = sym (sets_out b n t h); count = omega arith }
-
 pub put-length : {n r : ℕ} {t b b' : List ℕ} → Put t n r b b' → length b' ≡ length b
 put-length {n} {r} {t} {b} {b'} p = ap length p.bytes ∙ length-sets b n t
 
@@ -73,7 +64,3 @@ put_next {n} {m} {r} t i h p q =
 pub put_again : {n m r x : ℕ} {b b' b'' : List ℕ} (i : ℕ) →
     Put (replicate i x) n m b b' → Put (x ∷ []) m r b' b'' → Put (replicate (i + 1) x) n r b b''
 put_again {n} {m} {r} {x} i p q = put_as (replicate-append-replicate i 1 x) (put_then p q)
-
--- the count stays in the buffer
-pub put-inside : {n r : ℕ} {t b b' : List ℕ} → Put t n r b b' → n ≤ length b → r ≤ length b'
-put-inside {n} {r} {t} {b} {b'} p h = omega (arith, p.count, put-length p)

@@ -1,1 +1,3 @@
+pub mod Counts
+pub mod Digits
 pub mod Output

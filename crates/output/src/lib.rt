@@ -1,11 +1,15 @@
-// Output in a lent buffer, of which the first `used` bytes wait to be written. Each `put` gives the new count. What the
-// system writes cannot be said; all else is.
+// Output in a lent buffer, of which the first `used` bytes wait to be written. Each `put` gives the new count. What a
+// writer of the system does with the bytes cannot be said; all else is.
 #![tactic(auto)]
 
-ghost use Rattle.std.specs.Prelude.{cond, [], ◌∷◌, ◌≡◌, ◌-◌, ltb, replicate, take};
+ghost use Rattle.std.specs.Prelude.{cond, [], ◌∷◌, ◌≡◌, ◌-◌, ◌<◌, ◌≤◌, ltb, length, replicate, take, IfOk, OnOk};
+ghost use Rattle.std.specs.Io.KnownBytes.{Appends};
 ghost use Rattle.output.specs.Output.{Put, PutNumber};
 
-const STDOUT: i32 = 1;
+mod number;
+
+use std::io;
+use std::io::Write;
 
 // How many bytes wait once all are written.
 const NONE: usize = 0;
@@ -72,27 +76,31 @@ pub fn put_number(out: &mut [u8], used: usize, n: u64, columns: usize) -> usize
     ensures { PutNumber n columns used result out.old out.new }
 {
     let mut text = [0u8; 20];
-    let k = io::decimal(n, &mut text);
+    let k = number::decimal(n, &mut text);
     let u = put_spaces(out, used, spaces(columns, k));
     put_bytes(out, u, &text[..k])
 }
 
-// Writes the first `used` bytes to standard output. None wait then.
-pub fn flush(out: &[u8], used: usize) -> usize
-    ensures { result ≡ 0 }
+// Writes the first `used` bytes. None wait then; an error leaves them waiting.
+pub fn flush<W: Write>(to: &mut W, out: &[u8], used: usize) -> io::Result<usize>
+    ensures none_wait { IfOk result (λ n. n ≡ 0) }
+    ensures written { used ≤ length out.now → OnOk result (Appends (W.contents to.old) (W.contents to.new) (take used out.now)) }
 {
     if used <= out.len() {
-        io::write_all(STDOUT, &out[..used]);
+        to.write_all(&out[..used])?;
     }
-    NONE
+    Ok(NONE)
 }
 
-// Makes room: writes what waits where it is `most` bytes or more.
-pub fn room(out: &[u8], used: usize, most: usize) -> usize
-    ensures { result ≡ cond (ltb used most) used 0 }
+// Makes room: writes what waits where it is `most` bytes or more. An error leaves it waiting.
+pub fn room<W: Write>(to: &mut W, out: &[u8], used: usize, most: usize) -> io::Result<usize>
+    ensures waiting { IfOk result (λ n. n ≡ cond (ltb used most) used 0) }
+    ensures kept { used < most → to.new ≡ to.old }
+    ensures written { most ≤ used → used ≤ length out.now →
+        OnOk result (Appends (W.contents to.old) (W.contents to.new) (take used out.now)) }
 {
     if used < most {
-        return used;
+        return Ok(used);
     }
-    flush(out, used)
+    flush(to, out, used)
 }

@@ -10,8 +10,8 @@ use chord::Chord;
 use intervals::{IntervalList, IntervalSet};
 use keys::wanted::keys_of;
 use note::{Note, OptionalNote};
-
-const STDOUT: i32 = 1;
+use std::io;
+use std::io::Write;
 
 #[derive(Clone, Copy)]
 struct Counts {
@@ -256,26 +256,32 @@ fn every_set(buffer: &mut [u8], errs: &mut [u16]) -> Counts {
     c
 }
 
-fn print_number(n: u64) {
-    let mut text = [0u8; 20];
-    let k = io::decimal(n, &mut text);
-    io::write_all(STDOUT, &text[..k]);
+// Writes a number and what it counts.
+fn print_count<W: Write>(to: &mut W, n: u64, of: &[u8]) -> io::Result<()> {
+    print_number(to, n)?;
+    to.write_all(of)
 }
 
-fn main() {
+fn print_number<W: Write>(to: &mut W, n: u64) -> io::Result<()> {
+    let mut text = [0u8; 20];
+    let k = output::put_number(&mut text, 0, n, 0);
+    output::flush(to, &text, k)?;
+    Ok(())
+}
+
+fn main(rt: HostRuntime) -> io::Result<()> {
+    let mut to = rt.stdout();
     let mut buffer = [0u8; 112];
     let mut errs = [0u16; 1028];
     let c = every_set(&mut buffer, &mut errs);
-    print_number(c.pairs);
-    io::write_all(STDOUT, b" pairs of set and display list\n");
-    print_number(c.rootless);
-    io::write_all(STDOUT, b" without a root\n");
-    print_number(c.texts);
-    io::write_all(STDOUT, b" texts\n");
-    print_number(c.wrong);
-    io::write_all(STDOUT, b" refused or read as another four\n");
-    print_number(c.longest as u64);
-    io::write_all(STDOUT, b" bytes in the longest\n");
-    print_number(c.widest as u64);
-    io::write_all(STDOUT, b" keys in the record that wants most\n");
+    print_count(&mut to, c.pairs, b" pairs of set and display list\n")?;
+    print_count(&mut to, c.rootless, b" without a root\n")?;
+    print_count(&mut to, c.texts, b" texts\n")?;
+    print_count(&mut to, c.wrong, b" refused or read as another four\n")?;
+    print_count(&mut to, c.longest as u64, b" bytes in the longest\n")?;
+    print_count(
+        &mut to,
+        c.widest as u64,
+        b" keys in the record that wants most\n",
+    )
 }

@@ -5,59 +5,62 @@ use crate::print::{put, put_first, put_name, put_number, put_text};
 use chord::Chord;
 use intervals::IntervalSet;
 use note::{Note, NoteLiteral, OptionalNote, RootModifier};
+use std::io;
+use std::io::Write;
 
-fn put_spelling(chord: Chord) {
+fn put_spelling<W: Write>(to: &mut W, chord: Chord) -> io::Result<()> {
     let mut buffer = [0u8; 112];
     match writer::write(chord, &mut buffer) {
-        writer::Answer::Spelled(n) => put_first(&buffer, n),
-        writer::Answer::ShortBuffer => put(b"?"),
-        writer::Answer::NoText => put(b"?"),
+        writer::Answer::Spelled(n) => put_first(to, &buffer, n),
+        writer::Answer::ShortBuffer => put(to, b"?"),
+        writer::Answer::NoText => put(to, b"?"),
     }
 }
 
-fn put_letter(l: NoteLiteral) {
+fn put_letter<W: Write>(to: &mut W, l: NoteLiteral) -> io::Result<()> {
     match l {
-        NoteLiteral::C => put(b"C"),
-        NoteLiteral::D => put(b"D"),
-        NoteLiteral::E => put(b"E"),
-        NoteLiteral::F => put(b"F"),
-        NoteLiteral::G => put(b"G"),
-        NoteLiteral::A => put(b"A"),
-        NoteLiteral::B => put(b"B"),
+        NoteLiteral::C => put(to, b"C"),
+        NoteLiteral::D => put(to, b"D"),
+        NoteLiteral::E => put(to, b"E"),
+        NoteLiteral::F => put(to, b"F"),
+        NoteLiteral::G => put(to, b"G"),
+        NoteLiteral::A => put(to, b"A"),
+        NoteLiteral::B => put(to, b"B"),
     }
 }
 
-fn put_modifier(m: RootModifier) {
+fn put_modifier<W: Write>(to: &mut W, m: RootModifier) -> io::Result<()> {
     match m {
-        RootModifier::Natural => put(b""),
-        RootModifier::Sharp => put(b"#"),
-        RootModifier::Flat => put(b"b"),
+        RootModifier::Natural => put(to, b""),
+        RootModifier::Sharp => put(to, b"#"),
+        RootModifier::Flat => put(to, b"b"),
     }
 }
 
-fn put_note(note: Note) {
+fn put_note<W: Write>(to: &mut W, note: Note) -> io::Result<()> {
     let l = note.literal;
     let m = note.modifier;
-    put_letter(l);
-    put_modifier(m);
+    put_letter(to, l)?;
+    put_modifier(to, m)
 }
 
-fn put_bass(bass: OptionalNote) {
+fn put_bass<W: Write>(to: &mut W, bass: OptionalNote) -> io::Result<()> {
     match bass {
-        OptionalNote::None => put(b"none"),
-        OptionalNote::Some(n) => put_note(n),
+        OptionalNote::None => put(to, b"none"),
+        OptionalNote::Some(n) => put_note(to, n),
     }
 }
 
-fn put_intervals(set: IntervalSet) {
+fn put_intervals<W: Write>(to: &mut W, set: IntervalSet) -> io::Result<()> {
     let mut i = 0;
     while i < 23 {
         if set.contains(i) {
-            put(b" ");
-            put_name(i as u16);
+            put(to, b" ")?;
+            put_name(to, i as u16)?;
         }
         i += 1;
     }
+    Ok(())
 }
 
 // The pitch classes: which of the twelve sound.
@@ -102,46 +105,52 @@ fn with_bass(classes: Classes, bass: OptionalNote) -> Classes {
     }
 }
 
-fn put_classes(classes: Classes) {
+fn put_classes<W: Write>(to: &mut W, classes: Classes) -> io::Result<()> {
     let mut i = 0;
     while i < 12 {
         if classes.sound[i] {
-            put(b" ");
-            put_number(i as u64);
+            put(to, b" ")?;
+            put_number(to, i as u64)?;
         }
         i += 1;
     }
+    Ok(())
 }
 
-fn put_sound(root: Note, bass: OptionalNote, set: IntervalSet) {
+fn put_sound<W: Write>(
+    to: &mut W,
+    root: Note,
+    bass: OptionalNote,
+    set: IntervalSet,
+) -> io::Result<()> {
     let none = Classes { sound: [false; 12] };
     let c = with_set(none, set, root);
-    put_classes(with_bass(c, bass));
+    put_classes(to, with_bass(c, bass))
 }
 
 // The line of a chord, which has a root.
-fn put_rooted(text: &[u8], root: Note, chord: Chord) {
+fn put_rooted<W: Write>(to: &mut W, text: &[u8], root: Note, chord: Chord) -> io::Result<()> {
     let bass = chord.bass;
     let set = chord.normalized;
-    put_text(text);
-    put(b": ");
-    put_spelling(chord);
-    put(b"; root ");
-    put_note(root);
-    put(b"; bass ");
-    put_bass(bass);
-    put(b"; intervals");
-    put_intervals(set);
-    put(b"; pitch classes");
-    put_sound(root, bass, set);
-    put(b"\n");
+    put_text(to, text)?;
+    put(to, b": ")?;
+    put_spelling(to, chord)?;
+    put(to, b"; root ")?;
+    put_note(to, root)?;
+    put(to, b"; bass ")?;
+    put_bass(to, bass)?;
+    put(to, b"; intervals")?;
+    put_intervals(to, set)?;
+    put(to, b"; pitch classes")?;
+    put_sound(to, root, bass, set)?;
+    put(to, b"\n")
 }
 
 // A blank text is no chord, and has nothing else to show.
-pub(crate) fn put_chord(text: &[u8], chord: Chord) {
+pub(crate) fn put_chord<W: Write>(to: &mut W, text: &[u8], chord: Chord) -> io::Result<()> {
     let root = chord.root;
     match root {
-        OptionalNote::None => put(b"no chord: the reeds stop\n"),
-        OptionalNote::Some(n) => put_rooted(text, n, chord),
+        OptionalNote::None => put(to, b"no chord: the reeds stop\n"),
+        OptionalNote::Some(n) => put_rooted(to, text, n, chord),
     }
 }

@@ -17,36 +17,43 @@ use lines::Input;
 use print::put;
 use reader::{Answer, Reading};
 use songs::{is_song, show_song};
+use std::env::{Env, FillError};
+use std::io;
+use std::io::{Read, Write};
 
-fn put_refusal(text: &[u8], answer: Answer, errs: &[u16]) {
+fn put_refusal<W: Write>(to: &mut W, text: &[u8], answer: Answer, errs: &[u16]) -> io::Result<()> {
     match answer {
-        Answer::Accepted => put(b"accepted\n"),
-        Answer::ShortList => put(b"the list of errors is too short\n"),
-        Answer::LongText => put(b"the text has more than 256 bytes\n"),
-        Answer::NotUtf8 => put(b"the text is not UTF-8\n"),
-        Answer::Parse(n) => put_errors(text, errs, n),
-        Answer::Validation(n) => put_errors(text, errs, n),
+        Answer::Accepted => put(to, b"accepted\n"),
+        Answer::ShortList => put(to, b"the list of errors is too short\n"),
+        Answer::LongText => put(to, b"the text has more than 256 bytes\n"),
+        Answer::NotUtf8 => put(to, b"the text is not UTF-8\n"),
+        Answer::Parse(n) => put_errors(to, text, errs, n),
+        Answer::Validation(n) => put_errors(to, text, errs, n),
     }
 }
 
-pub(crate) fn put_reading(text: &[u8], reading: Reading, errs: &[u16]) {
+pub(crate) fn put_reading<W: Write>(
+    to: &mut W,
+    text: &[u8],
+    reading: Reading,
+    errs: &[u16],
+) -> io::Result<()> {
     let answer = reading.answer;
     let chord = reading.chord;
     match answer {
-        Answer::Accepted => chords::put_chord(text, chord),
-        _ => put_refusal(text, answer, errs),
+        Answer::Accepted => chords::put_chord(to, text, chord),
+        _ => put_refusal(to, text, answer, errs),
     }
 }
 
 // Reads a text, or the bars of a song line, and prints what there is to say of it.
-fn show(text: &[u8]) {
+fn show<W: Write>(to: &mut W, text: &[u8]) -> io::Result<()> {
     let mut errs = [0u16; 1028];
     if is_song(text) {
-        show_song(text, &mut errs);
-        return;
+        return show_song(to, text, &mut errs);
     }
     let r = reader::read(text, &mut errs);
-    put_reading(text, r, &errs);
+    put_reading(to, text, r, &errs)
 }
 
 // How many bytes of a line are the card: a carriage return before the newline belongs to the line's end. What is left where no call may
@@ -69,50 +76,59 @@ fn card_len(line: &[u8], s: Input) -> usize
 }
 
 // Shows a line that is ready.
-fn show_line(line: &[u8], s: Input)
+fn show_line<W: Write>(to: &mut W, line: &[u8], s: Input) -> io::Result<()>
     requires { s.len ≤ length line.now }
 {
     let len = card_len(line, s);
     if s.ready {
-        show(&line[..len]);
+        show(to, &line[..len])?;
     }
+    Ok(())
 }
 
-// Shows every line of standard input.
-fn show_lines(line: &mut [u8], block: &mut [u8]) {
+// Shows every line of the input.
+fn show_lines<R: Read, W: Write>(
+    from: &mut R,
+    to: &mut W,
+    line: &mut [u8],
+    block: &mut [u8],
+) -> io::Result<()> {
     let mut s = lines::start();
     while 0 < s.left {
-        s = lines::next(block, line, s);
-        show_line(line, s);
+        s = lines::next(from, block, line, s)?;
+        show_line(to, line, s)?;
     }
+    Ok(())
 }
 
-// Shows an argument. Of one that does not fit the first 4,097 bytes are there, too many for a text and for a song line.
-fn show_argument(i: usize) {
+// Shows an argument, and says whether there is one. Of one that does not fit the first 4,097 bytes are there, too many for a text and for
+// a song line.
+fn show_argument<W: Write>(to: &mut W, rt: HostRuntime, i: usize) -> io::Result<bool> {
     let mut text = [0u8; 4097];
-    let n = os::arg(i, &mut text);
-    if os::errno() != 0 {
-        show(&text);
-        return;
+    match rt.arg(i, &mut text) {
+        Ok(n) => show(to, &text[..n])?,
+        Err(FillError::TooLong) => show(to, &text)?,
+        Err(FillError::NotPresent) => return Ok(false),
     }
-    show(&text[..n]);
+    Ok(true)
 }
 
-fn show_arguments(count: usize) {
-    let mut i = 1;
-    while i < count {
-        show_argument(i);
-        i += 1;
+// Shows every argument behind the program's name, and says whether there is one.
+fn show_arguments<W: Write>(to: &mut W, rt: HostRuntime) -> io::Result<bool> {
+    for i in 1..usize::MAX {
+        if !show_argument(to, rt, i)? {
+            return Ok(1 < i);
+        }
     }
+    Ok(true)
 }
 
-fn main() {
-    let count = os::arg_count();
-    if 1 < count {
-        show_arguments(count);
-        return;
+fn main(rt: HostRuntime) -> io::Result<()> {
+    let mut to = rt.stdout();
+    if show_arguments(&mut to, rt)? {
+        return Ok(());
     }
     let mut line = [0u8; 4098];
-    let mut block = io::buffer();
-    show_lines(&mut line, &mut block);
+    let mut block = [0u8; 4096];
+    show_lines(&mut rt.stdin(), &mut to, &mut line, &mut block)
 }

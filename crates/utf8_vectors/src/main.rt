@@ -2,10 +2,14 @@
 // bytes in hexadecimal; its answer is `well` or `ill`, the code of each character or `-` for a byte that begins none, and `end`.
 #![tactic(auto)]
 
-ghost use Rattle.std.specs.Prelude.{◌<◌, ◌≤◌, length};
-ghost use Rattle.io.specs.Counts.{IsPrefixLen};
+ghost use Rattle.std.specs.Prelude.{◌<◌, ◌≤◌, length, IfOk};
+ghost use Rattle.output.specs.Counts.{IsPrefixLen};
+
+mod number;
 
 use lines::Input;
+use std::io;
+use std::io::{Read, Write};
 use utf8::Found;
 
 // The value of a hexadecimal digit; any other byte counts as 0.
@@ -61,49 +65,51 @@ fn upper(b: u8) -> u8 {
 }
 
 // Writes digits in upper case.
-fn write_upper(digits: &[u8]) {
+fn write_upper<W: Write>(to: &mut W, digits: &[u8]) -> io::Result<()> {
     let mut i = 0;
     while i < digits.len() {
-        io::write_all(1, &[upper(digits[i])]);
+        to.write_all(&[upper(digits[i])])?;
         i += 1;
     }
+    Ok(())
 }
 
 // Writes a code in hexadecimal, with at least four digits.
-fn write_code(code: u32) {
+fn write_code<W: Write>(to: &mut W, code: u32) -> io::Result<()> {
     let mut digits = [0u8; 16];
-    let n = io::hex(code as u64, 4, &mut digits);
-    io::write_all(1, b" ");
-    write_upper(&digits[..n]);
+    let n = number::hex(code as u64, 4, &mut digits);
+    to.write_all(b" ")?;
+    write_upper(to, &digits[..n])
 }
 
 // Writes what stands at a position, and answers the position after it.
-fn write_char(bytes: &[u8], at: usize) -> usize
+fn write_char<W: Write>(to: &mut W, bytes: &[u8], at: usize) -> io::Result<usize>
     requires { at < length bytes.now }
-    ensures { (at < result) × (result ≤ length bytes.now) }
+    ensures { IfOk result (λ n. (at < n) × (n ≤ length bytes.now)) }
 {
     match utf8::char_at(bytes, at) {
         Found::Char(code, n) => {
-            write_code(code);
-            at + n
+            write_code(to, code)?;
+            Ok(at + n)
         }
         Found::Bad => {
-            io::write_all(1, b" -");
-            at + 1
+            to.write_all(b" -")?;
+            Ok(at + 1)
         }
         Found::End => {
-            io::write_all(1, b" early-end");
-            at + 1
+            to.write_all(b" early-end")?;
+            Ok(at + 1)
         }
     }
 }
 
 // Writes what stands in the bytes, from position 0 on.
-fn write_chars(bytes: &[u8]) {
+fn write_chars<W: Write>(to: &mut W, bytes: &[u8]) -> io::Result<()> {
     let mut at = 0;
     while at < bytes.len() {
-        at = write_char(bytes, at);
+        at = write_char(to, bytes, at)?;
     }
+    Ok(())
 }
 
 // Does nothing stand at a position?
@@ -116,33 +122,31 @@ fn is_end(bytes: &[u8], at: usize) -> bool {
 }
 
 // Writes `end` where nothing stands at the end of the bytes and far beyond it.
-fn write_end(bytes: &[u8]) {
+fn write_end<W: Write>(to: &mut W, bytes: &[u8]) -> io::Result<()> {
     if is_end(bytes, bytes.len()) {
         if is_end(bytes, bytes.len() + 1000) {
-            io::write_all(1, b" end\n");
-            return;
+            return to.write_all(b" end\n");
         }
     }
-    io::write_all(1, b" no-end\n");
+    to.write_all(b" no-end\n")
 }
 
 // Writes whether the bytes are well formed.
-fn write_verdict(bytes: &[u8]) {
+fn write_verdict<W: Write>(to: &mut W, bytes: &[u8]) -> io::Result<()> {
     if utf8::well_formed(bytes) {
-        io::write_all(1, b"well");
-        return;
+        return to.write_all(b"well");
     }
-    io::write_all(1, b"ill");
+    to.write_all(b"ill")
 }
 
 // Writes the answer to a line of bytes.
-fn write_answer(line: &[u8]) {
+fn write_answer<W: Write>(to: &mut W, line: &[u8]) -> io::Result<()> {
     let mut octets = [0u8; 64];
     let n = read_octets(line, &mut octets);
     let bytes = &octets[..n];
-    write_verdict(bytes);
-    write_chars(bytes);
-    write_end(bytes);
+    write_verdict(to, bytes)?;
+    write_chars(to, bytes)?;
+    write_end(to, bytes)
 }
 
 // Does a line begin with `#`?
@@ -154,36 +158,42 @@ fn is_comment(line: &[u8]) -> bool {
 }
 
 // Copies a comment, and answers any other line.
-fn write_line(line: &[u8]) {
+fn write_line<W: Write>(to: &mut W, line: &[u8]) -> io::Result<()> {
     if is_comment(line) {
-        io::write_all(1, line);
-        io::write_all(1, b"\n");
-        return;
+        to.write_all(line)?;
+        return to.write_all(b"\n");
     }
-    write_answer(line);
+    write_answer(to, line)
 }
 
 // Answers a line that is ready.
-fn answer(line: &[u8], s: Input)
+fn answer<W: Write>(to: &mut W, line: &[u8], s: Input) -> io::Result<()>
     requires { IsPrefixLen s.len line.now }
 {
     let len = s.len;
     if s.ready {
-        write_line(&line[..len]);
+        write_line(to, &line[..len])?;
     }
+    Ok(())
 }
 
-// Answers every line of standard input.
-fn answer_all(line: &mut [u8], block: &mut [u8]) {
+// Answers every line of the input.
+fn answer_all<R: Read, W: Write>(
+    from: &mut R,
+    to: &mut W,
+    line: &mut [u8],
+    block: &mut [u8],
+) -> io::Result<()> {
     let mut s = lines::start();
     while 0 < s.left {
-        s = lines::next(block, line, s);
-        answer(line, s);
+        s = lines::next(from, block, line, s)?;
+        answer(to, line, s)?;
     }
+    Ok(())
 }
 
-fn main() {
-    let mut line = io::buffer();
-    let mut block = io::buffer();
-    answer_all(&mut line, &mut block);
+fn main(rt: HostRuntime) -> io::Result<()> {
+    let mut line = [0u8; 4096];
+    let mut block = [0u8; 4096];
+    answer_all(&mut rt.stdin(), &mut rt.stdout(), &mut line, &mut block)
 }

@@ -5,4 +5,4 @@ use lib.Seq.{length-take-le}
 use Rattle.ask.proofs.answer_step.Goals as goal
 
 pub slice_bounds-put_step-end-2 : goal.slice_bounds-put_step-end-2
-slice_bounds-put_step-end-2 c = sym (length-take-le _ _ c.at_most-n.ensures)
+slice_bounds-put_step-end-2 g c = sym (length-take-le _ _ c.at_most-n.ensures)

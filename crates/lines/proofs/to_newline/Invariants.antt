@@ -1,8 +1,5 @@
 -- As many bytes are passed as the walk from the first says less what it says from here on; the measure is what is left of them.
--- Assumes nothing.
-use mathlib.Core.Path.{◌≡◌}
-use Prim.Native.Nat.{◌+◌, ◌-◌, ◌≤◌}
-use lib.ListN.{drop, length}
+use Rattle.std.proofs.Common.{length, drop, ◌-◌, ◌+◌, ◌≡◌, ◌≤◌}
 use Rattle.lines.specs.Input.{to_newline}
 use Rattle.lines.proofs.to_newline.Given as goal
 

@@ -33,12 +33,11 @@ pub parse-ast-requires : goal.parse-ast-requires
 parse-ast-requires c =
     let folded = c.pre_process-e in
     let scan = c.scan_tokens-n in
-    let text = c.args.text.now in
     let low = c.requires in
     let scanned = scan.ensures.scanned in
     let tokens = take scan.result (rows scan.new.kinds scan.new.poss scan.new.lens) in
-    let wide = pre_process-ranged (length text + 1) (length text) tokens scanned.ranged in
-    let l = length text in
+    let l = length c.args.text.now in
+    let wide = pre_process-ranged (l + 1) l tokens scanned.ranged in
     let wider = ranged_wider (l + 1) (l + l) 1000 1000 (pre_process tokens) (omega (arith, low)) (omega (arith, low)) wide in
     let few = folded.ensures.upper_bound.0 in (
       tokens_first folded.result folded.new.kinds folded.new.poss folded.new.lens (omega (arith, few, scanned.few, low))

@@ -1,12 +1,10 @@
 -- The state lies inside the two buffers at each turn; the measure is the count of calls that may follow.
 -- Assumes nothing.
-use mathlib.Core.Path.{◌≡◌}
-use lib.ListN.{length}
 use Rattle.lines.specs.Input.{Inside}
 use Rattle.tokens.proofs.answer_all.Given as goal
 
 abbrev pub invariant-loop-s : goal.invariant-loop-s
-invariant-loop-s l = Inside l.s l.block l.line × (length l.out ≡ length l.initial.out) × (length l.line ≡ length l.initial.line) × (length l.block ≡ length l.initial.block)
+invariant-loop-s g l = Inside l.s l.block l.line
 
 abbrev pub decreases-loop-s : goal.decreases-loop-s
-decreases-loop-s l = l.s.left
+decreases-loop-s g l = l.s.left

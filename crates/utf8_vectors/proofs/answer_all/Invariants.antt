@@ -6,7 +6,7 @@ use Rattle.lines.specs.Input.{Inside}
 use Rattle.utf8_vectors.proofs.answer_all.Given as goal
 
 abbrev pub invariant-loop-s : goal.invariant-loop-s
-invariant-loop-s l = Inside l.s l.block l.line × (length l.line ≡ length l.initial.line) × (length l.block ≡ length l.initial.block)
+invariant-loop-s g l = Inside l.s l.block l.line × (length l.line ≡ length l.initial.line) × (length l.block ≡ length l.initial.block)
 
 abbrev pub decreases-loop-s : goal.decreases-loop-s
-decreases-loop-s l = l.s.left
+decreases-loop-s g l = l.s.left

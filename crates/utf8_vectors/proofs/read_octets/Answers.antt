@@ -1,10 +1,9 @@
 -- The invariant: no more bytes are stored than there is room for, the room stays, and `i` is at most one beyond the line.
 -- Assumes nothing.
-use Prim.Native.Nat.{◌-◌}
 use native.Mathlib.Omega.{arith}
 use lib.ListN.{length-set}
 use borrow.Author.Rules.{rules}
-use Rattle.io.proofs.Counting.{prefix_len_of_le}
+use Rattle.output.proofs.Counting.{prefix_len_of_le}
 use Rattle.utf8_vectors.proofs.read_octets.Goals as goal
 
 pub returns-then-line-i : goal.returns-then-line-i

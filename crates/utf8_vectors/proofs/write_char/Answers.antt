@@ -1,7 +1,7 @@
 -- A character has a byte at least and lies within the bytes, so the position after it does too.
 -- Assumes nothing.
 use mathlib.Core.List.{List}
-use mathlib.Core.Path.{◌≡◌, sym, ◌∙◌}
+use mathlib.Core.Path.{◌≡◌, sym}
 use Prim.Native.Nat.{ℕ, ◌+◌, ◌-◌, ◌≤◌, ◌<◌}
 use native.Mathlib.Omega.{arith}
 use lib.ListN.{length, drop, length-drop}
@@ -19,16 +19,9 @@ after s at c n h e =
     (omega arith, omega arith)
 
 pub overflow_add-result : goal.overflow_add-result
-overflow_add-result c =
-    let s = c.args.bytes.now in
-    let at = c.args.at in
-    let f = c.code-1.given in
-    let p = after s at f.0.0 f.0.1.0 c.requires (sym c.char_at.ensures ∙ f.1) in
+overflow_add-result g c =
+    let p = after c.args.bytes.now c.args.at c.in-Char.code c.in-Char.n c.requires (sym c.in-Char.ensures) in
     omega arith
 
-pub returns-in-Char : goal.returns-in-Char
-returns-in-Char c =
-    let s = c.args.bytes.now in
-    let at = c.args.at in
-    let f = c.code-1.given in
-    after s at f.0.0 f.0.1.0 c.requires (sym c.char_at.ensures ∙ f.1)
+pub returns-in_ok-write_code-in-Char : goal.returns-in_ok-write_code-in-Char
+returns-in_ok-write_code-in-Char g c = after c.args.bytes.now c.args.at c.in-Char.code c.in-Char.n c.requires (sym c.in-Char.ensures)

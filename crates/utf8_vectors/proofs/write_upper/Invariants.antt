@@ -5,7 +5,7 @@ use lib.ListN.{length}
 use Rattle.utf8_vectors.proofs.write_upper.Given as goal
 
 abbrev pub invariant-loop-i : goal.invariant-loop-i
-invariant-loop-i l = l.i ≤ length l.digits
+invariant-loop-i g l = l.i ≤ length l.digits
 
 abbrev pub decreases-loop-i : goal.decreases-loop-i
-decreases-loop-i l = length l.digits - l.i
+decreases-loop-i g l = length l.digits - l.i

@@ -6,7 +6,7 @@ use lib.ListN.{length}
 use Rattle.show.proofs.songs.show_song.Given as goal
 
 abbrev pub invariant-loop-i : goal.invariant-loop-i
-invariant-loop-i l = (l.i ≤ 4098) × (length l.errs ≡ length l.initial.errs)
+invariant-loop-i g l = (l.i ≤ 4098) × (length l.errs ≡ length l.initial.errs)
 
 abbrev pub decreases-loop-i : goal.decreases-loop-i
-decreases-loop-i l = 4098 - l.i
+decreases-loop-i g l = 4098 - l.i

@@ -4,4 +4,4 @@ use Rattle.song.proofs.Laws.{step-within}
 use Rattle.show.proofs.songs.show_step.Goals as goal
 
 pub put_step-requires : goal.put_step-requires
-put_step-requires c = step-within c.step_at-s.ensures
+put_step-requires g c = step-within c.step_at-s.ensures
