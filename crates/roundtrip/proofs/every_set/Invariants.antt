@@ -3,7 +3,6 @@
 use mathlib.Core.Path.{◌≡◌}
 use Prim.Native.Nat.{◌-◌, ◌≤◌}
 use lib.ListN.{length}
-use borrow.Author.Rules.{rules}
 use Rattle.roundtrip.proofs.every_set.Given as goal
 
 abbrev pub invariant-loop-bits : goal.invariant-loop-bits

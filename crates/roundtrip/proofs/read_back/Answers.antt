@@ -2,7 +2,6 @@
 -- Assumes nothing.
 use mathlib.Core.Path.{sym}
 use lib.Seq.{length-take-le}
-use borrow.Author.Rules.{rules}
 use Rattle.roundtrip.proofs.read_back.Goals as goal
 
 pub slice_bounds-reads_as-end-in-Spelled : goal.slice_bounds-reads_as-end-in-Spelled

@@ -3,7 +3,6 @@
 use mathlib.Core.Path.{◌≡◌}
 use Prim.Native.Nat.{◌-◌, ◌≤◌}
 use lib.ListN.{length}
-use borrow.Author.Rules.{rules}
 use Rattle.roundtrip.proofs.without_root.Given as goal
 
 abbrev pub invariant-loop-bass : goal.invariant-loop-bass
