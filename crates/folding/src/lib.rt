@@ -2,7 +2,7 @@
 #![tactic(auto)]
 
 ghost use Rattle.std.specs.Prelude.{◌≡◌, ℕ, ◌+◌, ◌^◌, ◌<◌, ◌≤◌, min, length, set, take};
-ghost use Rattle.token.specs.Token.{rows, Room, Untouched, at as tokenAt};
+ghost use Rattle.token.specs.Token.{rows, Room, Untouched, at as token_at};
 ghost use Rattle.folding.specs.Folding.{paired, fold7, count, is_maj, concat, pre_process};
 ghost use Rattle.folding.specs.State.{Latest, Joined, Apart, Counted, partner_came, seven_came, Stepped, Turned, joins_at, TookFirst, Short};
 
@@ -42,7 +42,7 @@ fn smaller(a: u16, b: u16) -> u16
 fn pair(kinds: &mut [u8], poss: &mut [u16], lens: &mut [u16], j: usize, i: usize, r: u8)
     requires { (j ≤ i) × Room (i + 1) kinds.old poss.old lens.old }
     ensures { let R = rows kinds.old poss.old lens.old in rows kinds.new poss.new
-        lens.new ≡ set R j (paired r (tokenAt R j) (tokenAt R i)) }
+        lens.new ≡ set R j (paired r (token_at R j) (token_at R i)) }
 {
     let p = smaller(poss[j], poss[i]);
     let l = lens[j];
@@ -60,8 +60,8 @@ fn join(
     waiting: usize,
     r: u8,
 ) -> usize
-    requires w_le_i { (w ≤ i) × Room (i + 1) kinds.old poss.old lens.old }
-    requires waiting_value { waiting ≡ count k (take w (rows kinds.old poss.old lens.old)) }
+    requires room { (w ≤ i) × Room (i + 1) kinds.old poss.old lens.old }
+    requires waiting_count { waiting ≡ count k (take w (rows kinds.old poss.old lens.old)) }
     ensures { Joined k r i waiting w result (rows kinds.old poss.old lens.old)
         (rows kinds.new poss.new lens.new) }
 {
@@ -114,7 +114,7 @@ fn seven_came(o: Out, at: usize) -> Out
 
 // Token i is taken.
 fn step(kinds: &mut [u8], poss: &mut [u16], lens: &mut [u16], o: Out, i: usize, m: u8, r: u8) -> Out
-    requires at_le_i { (o.at ≤ i) × Room (i + 1) kinds.old poss.old lens.old }
+    requires room { (o.at ≤ i) × Room (i + 1) kinds.old poss.old lens.old }
     requires counted { Counted m o (rows kinds.old poss.old lens.old) × Apart m r }
     ensures { Stepped m r i o result (rows kinds.old poss.old lens.old)
         (rows kinds.new poss.new lens.new) }
@@ -189,8 +189,8 @@ fn take_one(
     i: usize,
     n: usize,
 ) -> usize
-    requires w_le_i { (w ≤ i) × (i < n) × Room n kinds.old poss.old lens.old }
-    requires by_index { (j : ℕ) → i ≤ j → j < n → (tokenAt (rows kinds.old poss.old lens.old) j).len ≤ 256 }
+    requires room { (w ≤ i) × (i < n) × Room n kinds.old poss.old lens.old }
+    requires short { (j : ℕ) → i ≤ j → j < n → (token_at (rows kinds.old poss.old lens.old) j).len ≤ 256 }
     ensures { TookFirst i n w result (rows kinds.old poss.old lens.old)
         (rows kinds.new poss.new lens.new) }
 {
@@ -223,7 +223,7 @@ fn concat_maj7(kinds: &mut [u8], poss: &mut [u16], lens: &mut [u16], n: usize) -
 // new count and the old one is free; what lies behind the old one is untouched, in each of the three arrays.
 pub fn pre_process(kinds: &mut [u8], poss: &mut [u16], lens: &mut [u16], n: usize) -> usize
     requires { Room n kinds.old poss.old lens.old × Short n (rows kinds.old poss.old lens.old) }
-    ensures upper_bound { (result ≤ n)
+    ensures folded { (result ≤ n)
         × (take result (rows kinds.new poss.new lens.new) ≡ pre_process
         (take n (rows kinds.old poss.old lens.old))) }
     ensures untouched { Untouched n kinds.old poss.old lens.old

@@ -4,11 +4,11 @@
 ghost use mathlib.Core.List.{[], map, zip_with};
 ghost use Rattle.std.specs.Prelude.{false, ◌≡◌, ◌+◌, ◌<◌, ◌≤◌, min, length, get_or, drop};
 ghost use Rattle.intervals.specs.Interval.{elem};
-ghost use Rattle.token.specs.Token.{token as tokenOf, rows, Room, Untouched};
+ghost use Rattle.token.specs.Token.{token as token_of, rows, Room, Untouched};
 ghost use Rattle.utf8.specs.Utf8.{begins, char_at};
-ghost use Rattle.lexer.specs.Words.{words as wordList, is_letter, run_end, word_by_ends};
+ghost use Rattle.lexer.specs.Words.{words as word_list, is_letter, run_end, word_by_ends};
 ghost use Rattle.lexer.specs.Lexer.{raised_numerals, place_in, digit_of, sign_of, sign_head, word_head, two_digits, one_digit, number_head, number_by, head_by, head_of, size_of, lex};
-ghost use Rattle.lexer.specs.State.{Tables, Candidate, last_end, longest_word, place_down, next_places, info as infoOf, padded, word_at, scan, plan, plan_of, Inserted, Emitted, Scannable, Went, Written, Scanned};
+ghost use Rattle.lexer.specs.State.{Tables, Candidate, last_end, longest_word, place_down, next_places, info as info_of, padded, word_at, scan, plan, plan_of, Inserted, Emitted, Scannable, Went, Written, Scanned};
 ghost use Rattle.utf8.specs.declared.Found.TheVariants as utf8;
 
 use token::{
@@ -184,7 +184,7 @@ fn wide(n: u8) -> usize
 
 // The letter j of word i.
 fn letter(words: &[[u8; 10]; 55], i: usize, j: usize) -> u8
-    requires { (words.now ≡ map padded wordList) × (i < 55) × (j < length (word_at i).text) }
+    requires { (words.now ≡ map padded word_list) × (i < 55) × (j < length (word_at i).text) }
     ensures { result ≡ get_or (word_at i).text j 0 }
 {
     words[i][j]
@@ -200,7 +200,7 @@ fn info(infos: &[[u8; 3]; 55], i: usize, j: usize) -> u8
 
 // Does word i, of n letters, stand at a place of the text? Its first letter does.
 fn matches(words: &[[u8; 10]; 55], i: usize, n: usize, text: &[u8], at: usize) -> bool
-    requires { (words.now ≡ map padded wordList) × Candidate text.now at i n × (at + n ≤ length text.now) }
+    requires { (words.now ≡ map padded word_list) × Candidate text.now at i n × (at + n ≤ length text.now) }
     ensures { result ≡ begins (word_at i).text (drop at text.now) }
 {
     let mut j = 1;
@@ -215,7 +215,7 @@ fn matches(words: &[[u8; 10]; 55], i: usize, n: usize, text: &[u8], at: usize) -
 
 // The same, where only ends up to the last one are tried: no word of the run ends behind it.
 fn stands(words: &[[u8; 10]; 55], i: usize, n: usize, text: &[u8], at: usize, last: usize) -> bool
-    requires { (words.now ≡ map padded wordList) × Candidate text.now at i n × (last ≡ last_end text.now at)
+    requires { (words.now ≡ map padded word_list) × Candidate text.now at i n × (last ≡ last_end text.now at)
         × (length text.now ≤ 256) }
     ensures { result ≡ begins (word_at i).text (drop at text.now) }
 {
@@ -537,7 +537,7 @@ fn insert(
     len: u16,
 )
     requires { (place ≤ n) × Room (n + 1) kinds.old poss.old lens.old }
-    ensures { Inserted (tokenOf kind pos len) place n (rows kinds.old poss.old lens.old)
+    ensures { Inserted (token_of kind pos len) place n (rows kinds.old poss.old lens.old)
         (rows kinds.new poss.new lens.new) }
 {
     let mut j = n;
@@ -660,13 +660,13 @@ fn scan_to_end(
 // The word list, and what is kept of each word, to be lent. Each constant stands alone in a function, since all that follows it in the same
 // one is proved with its numbers in view.
 fn word_texts() -> [[u8; 10]; 55]
-    ensures { result ≡ map padded wordList }
+    ensures { result ≡ map padded word_list }
 {
     WORDS
 }
 
 fn word_infos() -> [[u8; 3]; 55]
-    ensures { result ≡ zip_with infoOf wordList next_places }
+    ensures { result ≡ zip_with info_of word_list next_places }
 {
     INFOS
 }

@@ -2,7 +2,7 @@
 #![tactic(auto)]
 
 ghost use Rattle.std.specs.Prelude.{◌≡◌, ◌+◌, ◌<◌, set};
-ghost use Rattle.token.specs.Token.{bracket_kind, token as tokenOf, type_of, plain_type, rows, Room, at as tokenAt};
+ghost use Rattle.token.specs.Token.{bracket_kind, token as token_of, type_of, plain_type, rows, Room, at as token_at};
 
 use note::NoteLiteral;
 
@@ -150,7 +150,7 @@ pub fn put(
 )
     requires { Room (at + 1) kinds.old poss.old lens.old }
     ensures { rows kinds.new poss.new lens.new ≡ set
-        (rows kinds.old poss.old lens.old) at (tokenOf kind pos len) }
+        (rows kinds.old poss.old lens.old) at (token_of kind pos len) }
 {
     kinds[at] = kind;
     poss[at] = pos;
@@ -161,7 +161,7 @@ pub fn put(
 pub fn copy(kinds: &mut [u8], poss: &mut [u16], lens: &mut [u16], to: usize, from: usize)
     requires { Room (to + 1) kinds.old poss.old lens.old × Room (from + 1) kinds.old poss.old lens.old }
     ensures { let R = rows kinds.old poss.old lens.old in rows kinds.new poss.new
-        lens.new ≡ set R to (tokenAt R from) }
+        lens.new ≡ set R to (token_at R from) }
 {
     let kind = kinds[from];
     let pos = poss[from];

@@ -21,8 +21,8 @@ fn wide(b: u8) -> u32
 
 // Is there a continuation byte, 10xxxxxx, at i?
 fn continued(s: &[u8], i: usize) -> bool
-    ensures i_in_bounds { result ≡ true → (i < length s.now) × (128 ≤ get_or s.now i 0) × (get_or s.now i 0 < 192) }
-    ensures value { 128 ≤ get_or s.now i 0 → get_or s.now i 0 < 192 → result ≡ true }
+    ensures sound { result ≡ true → (i < length s.now) × (128 ≤ get_or s.now i 0) × (get_or s.now i 0 < 192) }
+    ensures complete { 128 ≤ get_or s.now i 0 → get_or s.now i 0 < 192 → result ≡ true }
 {
     if s.len() <= i {
         return false;

@@ -9,7 +9,7 @@ pub loop-i-init : goal.loop-i-init
 loop-i-init c = (joining_start _ _, refl, refl, refl)
 
 pub take_one-i-requires : goal.take_one-i-requires
-take_one-i-requires c = record { w_le_i = (omega arith, omega arith, omega arith); by_index = still_short _ c.loop-i.invariant.0 c.requires.1 }
+take_one-i-requires c = record { room = (omega arith, omega arith, omega arith); short = still_short _ c.loop-i.invariant.0 c.requires.1 }
 
 pub loop-i-smaller : goal.loop-i-smaller
 loop-i-smaller c = omega (arith, c.take_one-i.ensures.more)

@@ -9,11 +9,11 @@ use Rattle.folding.proofs.join.Goals as goal
 pub returns-then-waiting-eq0 : goal.returns-then-waiting-eq0
 returns-then-waiting-eq0 c =
     let a = c.args in
-    let h : _ ≤ length (rows a.kinds.now a.poss.now a.lens.now) = rows-room _ _ _ (a.i + 1) c.requires.w_le_i.1 in
-    joined-last (omega arith) c.if-waiting-eq0.true c.requires.waiting_value c.copy.ensures
+    let h : _ ≤ length (rows a.kinds.now a.poss.now a.lens.now) = rows-room _ _ _ (a.i + 1) c.requires.room.1 in
+    joined-last (omega arith) c.if-waiting-eq0.true c.requires.waiting_count c.copy.ensures
 
 pub overflow_sub-e : goal.overflow_sub-e
-overflow_sub-e c = latest_some _ _ _ _ (omega arith) c.latest-e.ensures c.requires.waiting_value c.if-waiting-eq0.false
+overflow_sub-e c = latest_some _ _ _ _ (omega arith) c.latest-e.ensures c.requires.waiting_count c.if-waiting-eq0.false
 
 pub returns : goal.returns
-returns c = joined_latest _ _ _ _ (omega arith) c.latest-e.ensures c.requires.waiting_value c.if-waiting-eq0.false c.pair.ensures
+returns c = joined_latest _ _ _ _ (omega arith) c.latest-e.ensures c.requires.waiting_count c.if-waiting-eq0.false c.pair.ensures

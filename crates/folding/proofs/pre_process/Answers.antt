@@ -15,7 +15,7 @@ returns-then-latest-eq0 c =
     let a = c.args in
     let z = latest_none a.kinds.now a.poss.now a.lens.now a.n c.requires.0 c.latest.ensures c.if-latest-eq0.true in
     let R = rows a.kinds.now a.poss.now a.lens.now in
-    record { upper_bound = (omega arith, sym (no_seven (take a.n R) z)); untouched = record { kinds = refl; poss = refl; lens = refl } }
+    record { folded = (omega arith, sym (no_seven (take a.n R) z)); untouched = record { kinds = refl; poss = refl; lens = refl } }
 
 pub returns : goal.returns
 returns c =
@@ -23,4 +23,4 @@ returns c =
     let y = c.fold_7-b in
     let z = c.fold_7 in
     let t = all_turns x.ensures y.ensures z.ensures in
-    record { upper_bound = t.0; untouched = untouched_rows (omega (arith, c.requires.0)) (omega (arith, c.requires.0, x.auto, y.auto, z.auto)) c.args.n t.1 }
+    record { folded = t.0; untouched = untouched_rows (omega (arith, c.requires.0)) (omega (arith, c.requires.0, x.auto, y.auto, z.auto)) c.args.n t.1 }

@@ -21,13 +21,13 @@ pre_process-e-requires c =
     (omega (arith, scanned.few), λ j h. le_trans (scanned_short scanned j h) (omega arith))
 
 pub slice_bounds-parse-end : goal.slice_bounds-parse-end
-slice_bounds-parse-end c = sym (length-take-le _ _ (omega (arith, c.pre_process-e.auto, c.pre_process-e.ensures.upper_bound.0)))
+slice_bounds-parse-end c = sym (length-take-le _ _ (omega (arith, c.pre_process-e.auto, c.pre_process-e.ensures.folded.0)))
 
 pub slice_bounds-parse-end-2 : goal.slice_bounds-parse-end-2
-slice_bounds-parse-end-2 c = sym (length-take-le _ _ (omega (arith, c.pre_process-e.auto, c.pre_process-e.ensures.upper_bound.0)))
+slice_bounds-parse-end-2 c = sym (length-take-le _ _ (omega (arith, c.pre_process-e.auto, c.pre_process-e.ensures.folded.0)))
 
 pub slice_bounds-parse-end-3 : goal.slice_bounds-parse-end-3
-slice_bounds-parse-end-3 c = sym (length-take-le _ _ (omega (arith, c.pre_process-e.auto, c.pre_process-e.ensures.upper_bound.0)))
+slice_bounds-parse-end-3 c = sym (length-take-le _ _ (omega (arith, c.pre_process-e.auto, c.pre_process-e.ensures.folded.0)))
 
 pub parse-ast-requires : goal.parse-ast-requires
 parse-ast-requires c =
@@ -39,9 +39,9 @@ parse-ast-requires c =
     let l = length c.args.text.now in
     let wide = pre_process-ranged (l + 1) l tokens scanned.ranged in
     let wider = ranged_wider (l + 1) (l + l) 1000 1000 (pre_process tokens) (omega (arith, low)) (omega (arith, low)) wide in
-    let few = folded.ensures.upper_bound.0 in (
+    let few = folded.ensures.folded.0 in (
       tokens_first folded.result folded.new.kinds folded.new.poss folded.new.lens (omega (arith, few, scanned.few, low))
-          (omega (arith, few, scanned.few, low, folded.auto)) (subst (Ranged 1000 1000) (sym folded.ensures.upper_bound.1) wider),
+          (omega (arith, few, scanned.few, low, folded.auto)) (subst (Ranged 1000 1000) (sym folded.ensures.folded.1) wider),
       record { errs = search rules; exps = search rules },
     )
 

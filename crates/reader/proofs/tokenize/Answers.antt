@@ -26,8 +26,8 @@ returns c =
     let ts = take scan.result (rows scan.new.kinds scan.new.poss scan.new.lens) in
     let wide = pre_process-ranged (length text + 1) (length text) ts scan.ensures.scanned.ranged in
     record {
-      few = omega (arith, fold.ensures.upper_bound.0, scan.ensures.scanned.few, c.requires.0);
-      room = omega (arith, fold.ensures.upper_bound.0, scan.ensures.scanned.few, c.requires.1, fold.auto, scan.auto);
-      list = fold.ensures.upper_bound.1 ∙ ap pre_process scan.ensures.scanned.written.list;
-      ranged = subst (Ranged 1000 1000) (sym fold.ensures.upper_bound.1) (ranged_wider (length text + 1) (length text + length text) 1000 1000 (pre_process ts) (omega (arith, c.requires.0)) (omega (arith, c.requires.0)) wide);
+      few = omega (arith, fold.ensures.folded.0, scan.ensures.scanned.few, c.requires.0);
+      room = omega (arith, fold.ensures.folded.0, scan.ensures.scanned.few, c.requires.1, fold.auto, scan.auto);
+      list = fold.ensures.folded.1 ∙ ap pre_process scan.ensures.scanned.written.list;
+      ranged = subst (Ranged 1000 1000) (sym fold.ensures.folded.1) (ranged_wider (length text + 1) (length text + length text) 1000 1000 (pre_process ts) (omega (arith, c.requires.0)) (omega (arith, c.requires.0)) wide);
     }

@@ -14,30 +14,30 @@ returns-then-not-continued c =
     let s = c.args.s.now in
     let a = c.args.a in
     let p = c.requires in
-    packed_none ∙ sym (bad_second s p.0 (omega arith) (unless c.continued.ensures.value c.if-not-continued.true-raw))
+    packed_none ∙ sym (bad_second s p.0 (omega arith) (unless c.continued.ensures.complete c.if-not-continued.true-raw))
 
 pub returns-then-not-continued-2 : goal.returns-then-not-continued-2
 returns-then-not-continued-2 c =
     let s = c.args.s.now in
     let a = c.args.a in
     let p = c.requires in
-    packed_none ∙ sym (bad_third s p.0 (omega arith) (unless c.continued-2.ensures.value c.if-not-continued-2.true-raw))
+    packed_none ∙ sym (bad_third s p.0 (omega arith) (unless c.continued-2.ensures.complete c.if-not-continued-2.true-raw))
 
 pub returns-then-not-continued-3 : goal.returns-then-not-continued-3
 returns-then-not-continued-3 c =
     let s = c.args.s.now in
     let a = c.args.a in
     let p = c.requires in
-    packed_none ∙ sym (bad_fourth s p.0 (omega arith) (unless c.continued-3.ensures.value c.if-not-continued-3.true-raw))
+    packed_none ∙ sym (bad_fourth s p.0 (omega arith) (unless c.continued-3.ensures.complete c.if-not-continued-3.true-raw))
 
 pub six_bits-requires : goal.six_bits-requires
-six_bits-requires c = c.continued.ensures.i_in_bounds c.if-not-continued.false
+six_bits-requires c = c.continued.ensures.sound c.if-not-continued.false
 
 pub six_bits-requires-2 : goal.six_bits-requires-2
-six_bits-requires-2 c = c.continued-2.ensures.i_in_bounds c.if-not-continued-2.false
+six_bits-requires-2 c = c.continued-2.ensures.sound c.if-not-continued-2.false
 
 pub six_bits-requires-3 : goal.six_bits-requires-3
-six_bits-requires-3 c = c.continued-3.ensures.i_in_bounds c.if-not-continued-3.false
+six_bits-requires-3 c = c.continued-3.ensures.sound c.if-not-continued-3.false
 
 pub returns-then-c-lt65536 : goal.returns-then-c-lt65536
 returns-then-c-lt65536 c =
@@ -60,7 +60,7 @@ returns-then-c-lt1114112 c =
     let g : y < 64 = c.six_bits-2.ensures.1 in
     let i : z + 128 ≡ get_or s 3 0 = c.six_bits-3.ensures.0 in
     let j : z < 64 = c.six_bits-3.ensures.1 in
-    let m = c.continued-3.ensures.i_in_bounds c.if-not-continued-3.false in
+    let m = c.continued-3.ensures.sound c.if-not-continued-3.false in
     packed ((a - 240) * 262144 + x * 4096 + y * 64 + z) 4 (omega arith) (omega arith)
     ∙ sym (four-found s ((a - 240) * 262144 + x * 4096 + y * 64 + z) m.0 c.if-c-lt65536.false c.if-c-lt1114112.true (omega arith) (omega arith) (omega arith) (omega arith))
 

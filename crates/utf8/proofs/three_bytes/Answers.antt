@@ -14,20 +14,20 @@ returns-then-not-continued c =
     let s = c.args.s.now in
     let a = c.args.a in
     let p = c.requires in
-    packed_none ∙ sym (bad_second s p.0 (omega arith) (unless c.continued.ensures.value c.if-not-continued.true-raw))
+    packed_none ∙ sym (bad_second s p.0 (omega arith) (unless c.continued.ensures.complete c.if-not-continued.true-raw))
 
 pub returns-then-not-continued-2 : goal.returns-then-not-continued-2
 returns-then-not-continued-2 c =
     let s = c.args.s.now in
     let a = c.args.a in
     let p = c.requires in
-    packed_none ∙ sym (bad_third s p.0 (omega arith) (unless c.continued-2.ensures.value c.if-not-continued-2.true-raw))
+    packed_none ∙ sym (bad_third s p.0 (omega arith) (unless c.continued-2.ensures.complete c.if-not-continued-2.true-raw))
 
 pub six_bits-requires : goal.six_bits-requires
-six_bits-requires c = c.continued.ensures.i_in_bounds c.if-not-continued.false
+six_bits-requires c = c.continued.ensures.sound c.if-not-continued.false
 
 pub six_bits-requires-2 : goal.six_bits-requires-2
-six_bits-requires-2 c = c.continued-2.ensures.i_in_bounds c.if-not-continued-2.false
+six_bits-requires-2 c = c.continued-2.ensures.sound c.if-not-continued-2.false
 
 pub returns-then-c-lt2048 : goal.returns-then-c-lt2048
 returns-then-c-lt2048 c =
@@ -47,7 +47,7 @@ returns-then-c-lt55296 c =
     let h : x < 64 = c.six_bits.ensures.1 in
     let f : y + 128 ≡ get_or s 2 0 = c.six_bits-2.ensures.0 in
     let g : y < 64 = c.six_bits-2.ensures.1 in
-    let m = c.continued-2.ensures.i_in_bounds c.if-not-continued-2.false in
+    let m = c.continued-2.ensures.sound c.if-not-continued-2.false in
     packed ((a - 224) * 4096 + x * 64 + y) 3 (omega arith) (omega arith)
     ∙ sym (three-found s ((a - 224) * 4096 + x * 64 + y) (low_scalar _ c.if-c-lt55296.true) m.0 c.if-c-lt2048.false (omega arith) (omega arith) (omega arith) (omega arith))
 
@@ -69,6 +69,6 @@ returns c =
     let h : x < 64 = c.six_bits.ensures.1 in
     let f : y + 128 ≡ get_or s 2 0 = c.six_bits-2.ensures.0 in
     let g : y < 64 = c.six_bits-2.ensures.1 in
-    let m = c.continued-2.ensures.i_in_bounds c.if-not-continued-2.false in
+    let m = c.continued-2.ensures.sound c.if-not-continued-2.false in
     packed ((a - 224) * 4096 + x * 64 + y) 3 (omega arith) (omega arith)
     ∙ sym (three-found s ((a - 224) * 4096 + x * 64 + y) (high_scalar _ c.if-c-lt57344.false (omega arith)) m.0 c.if-c-lt2048.false (omega arith) (omega arith) (omega arith) (omega arith))

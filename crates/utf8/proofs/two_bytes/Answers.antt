@@ -13,10 +13,10 @@ returns-then-not-continued c =
     let s = c.args.s.now in
     let a = c.args.a in
     let p = c.requires in
-    packed_none ∙ sym (bad_second s p.0 (omega arith) (unless c.continued.ensures.value c.if-not-continued.true-raw))
+    packed_none ∙ sym (bad_second s p.0 (omega arith) (unless c.continued.ensures.complete c.if-not-continued.true-raw))
 
 pub six_bits-requires : goal.six_bits-requires
-six_bits-requires c = c.continued.ensures.i_in_bounds c.if-not-continued.false
+six_bits-requires c = c.continued.ensures.sound c.if-not-continued.false
 
 pub returns-then-c-lt128 : goal.returns-then-c-lt128
 returns-then-c-lt128 c =
@@ -33,6 +33,6 @@ returns c =
     let x = c.six_bits.result in
     let e : x + 128 ≡ get_or s 1 0 = c.six_bits.ensures.0 in
     let h : x < 64 = c.six_bits.ensures.1 in
-    let f = c.continued.ensures.i_in_bounds c.if-not-continued.false in
+    let f = c.continued.ensures.sound c.if-not-continued.false in
     packed ((a - 192) * 64 + x) 2 (omega arith) (omega arith)
     ∙ sym (two-found s ((a - 192) * 64 + x) f.0 c.if-c-lt128.false (omega arith) (omega arith) (omega arith))
