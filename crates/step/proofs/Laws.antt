@@ -7,8 +7,6 @@ use Prim.Native.Nat.{ℕ, zero, suc, ◌+◌, ◌≤◌, ◌<◌, max}
 use native.Mathlib.Omega.{arith}
 use borrow.Author.Tests.{eqb-false}
 use lib.IntN.{pos}
-use Rattle.note.specs.declared.OptionalNote.{OptionalNote}
-use Rattle.note.specs.declared.RootModifier.{RootModifier}
 use Rattle.lookahead.specs.declared.Ahead.{Ahead}
 use Rattle.lookahead.specs.declared.Next.{Next}
 use Rattle.token.specs.declared.Bracket.TheVariants.{Opens, Closes, Ends, Other}
@@ -21,6 +19,11 @@ use Rattle.lookahead.specs.Next.{is_end, is_maj7, is_number, is_sign, note_from,
 use Rattle.step.specs.Step.{add_interval, add_signed, add_target, inside_of, interval_alone, is_power, then_end, modifier_step, note_step, omit_target, placed, six_nine, step_of, sus_allows}
 use Rattle.step.specs.declared.context.Context.TheVariants as context
 use Rattle.step.specs.declared.context.GroupKind.TheVariants as group
+use lib.{Dec.eqb, Dec.ltb, ListN.get_or, Signed.lt_z}
+use Rattle.note.specs.declared.OptionalNote.{OptionalNote, TheVariants.Some, TheVariants.None}
+use Rattle.note.specs.declared.RootModifier.{RootModifier, TheVariants.Natural, TheVariants.Sharp, TheVariants.Flat}
+use Rattle.step.specs.{Bounds.Small, Bounds.SoundGains, Bounds.sus_bit, Context.member_of, Context.on_comma, Context.start_group, Effect.taking, Effect.within, Interval.interval_of, Interval.intervals_by}
+use Rattle.step.specs.declared.{context.Context.Context, context.GroupKind.GroupKind, effect.Effect.Effect, effect.Here.Here}
 
 -- both laws of an effect
 abbrev Good : Here → Effect → Type 0
