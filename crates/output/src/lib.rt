@@ -81,7 +81,7 @@ pub fn put_number(out: &mut [u8], used: usize, n: u64, columns: usize) -> usize
     put_bytes(out, u, &text[..k])
 }
 
-// Writes the first `used` bytes. None wait then; an error leaves them waiting.
+// Writes the first `used` bytes. None wait then. After an error some may be written; the buffer and its count stand as they were.
 pub fn flush<W: Write>(to: &mut W, out: &[u8], used: usize) -> io::Result<usize>
     ensures none_wait { IfOk result (λ n. n ≡ 0) }
     ensures written { used ≤ length out.now → OnOk result (Appends (W.contents to.old) (W.contents to.new) (take used out.now)) }
@@ -92,7 +92,7 @@ pub fn flush<W: Write>(to: &mut W, out: &[u8], used: usize) -> io::Result<usize>
     Ok(NONE)
 }
 
-// Makes room: writes what waits where it is `most` bytes or more. An error leaves it waiting.
+// Makes room: writes what waits where it is `most` bytes or more. An error is as that of `flush`.
 pub fn room<W: Write>(to: &mut W, out: &[u8], used: usize, most: usize) -> io::Result<usize>
     ensures waiting { IfOk result (λ n. n ≡ cond (ltb used most) used 0) }
     ensures kept { used < most → to.new ≡ to.old }
