@@ -2,13 +2,11 @@
 // set and the display list that they give is put the writer's question; where it is yes, the record is written with every root and every
 // bass, and its spelling is read. Without a root the question is put with every bass and with none. Printed: how many pairs of set and
 // display list have a text with a root, how many records have one without, how many texts were read, how many of these were refused or
-// read as another four, the length of the longest, and the most keys that a record wants, which bounds the MIDI messages from one to
-// another.
+// read as another four, and the length of the longest.
 #![tactic(auto)]
 
 use chord::Chord;
 use intervals::{IntervalList, IntervalSet};
-use keys::wanted::keys_of;
 use note::{Note, OptionalNote};
 use std::io;
 use std::io::Write;
@@ -20,7 +18,6 @@ struct Counts {
     texts: u64,
     wrong: u64,
     longest: usize,
-    widest: usize,
 }
 
 // One more, up to the largest number.
@@ -50,29 +47,17 @@ fn reads_as(text: &[u8], chord: Chord, errs: &mut [u16]) -> bool {
     }
 }
 
-// A base key over which no key of a chord falls outside the 128.
-const BASE: u8 = 60;
-
-// How many keys a record wants.
-fn key_count(chord: Chord) -> usize {
-    let w = keys_of(BASE, chord);
-    let keys = w.keys;
-    keys.count()
-}
-
-// Whether a record was written and its spelling reads as its four, how long this is, and how many keys the record wants.
+// Whether a record was written and its spelling reads as its four, and how long this is.
 #[derive(Clone, Copy)]
 struct Back {
     same: bool,
     len: usize,
-    keys: usize,
 }
 
 fn read_back(chord: Chord, buffer: &mut [u8], errs: &mut [u16]) -> Back {
     let wrong = Back {
         same: false,
         len: 0,
-        keys: 0,
     };
     match writer::write(chord, buffer) {
         writer::Answer::Spelled(n) => {
@@ -82,7 +67,6 @@ fn read_back(chord: Chord, buffer: &mut [u8], errs: &mut [u16]) -> Back {
             Back {
                 same: reads_as(&buffer[..n], chord, errs),
                 len: n,
-                keys: key_count(chord),
             }
         }
         writer::Answer::ShortBuffer => wrong,
@@ -99,9 +83,6 @@ fn counted(c: Counts, b: Back) -> Counts {
     }
     if c.longest < b.len {
         d.longest = b.len;
-    }
-    if c.widest < b.keys {
-        d.widest = b.keys;
     }
     d
 }
@@ -246,7 +227,6 @@ fn every_set(buffer: &mut [u8], errs: &mut [u16]) -> Counts {
         texts: 0,
         wrong: 0,
         longest: 0,
-        widest: 0,
     };
     let mut bits = 0;
     while bits < 8388608 {
@@ -278,10 +258,5 @@ fn main(rt: HostRuntime) -> io::Result<()> {
     print_count(&mut to, c.rootless, b" without a root\n")?;
     print_count(&mut to, c.texts, b" texts\n")?;
     print_count(&mut to, c.wrong, b" refused or read as another four\n")?;
-    print_count(&mut to, c.longest as u64, b" bytes in the longest\n")?;
-    print_count(
-        &mut to,
-        c.widest as u64,
-        b" keys in the record that wants most\n",
-    )
+    print_count(&mut to, c.longest as u64, b" bytes in the longest\n")
 }
