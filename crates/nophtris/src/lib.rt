@@ -1,4 +1,4 @@
-// The C boundary: include/nophtris.h declares the functions. A record is 51 bytes there.
+// The functions of include/nophtris.h, over bytes; nophtris_c hands them to C. A record is 51 bytes.
 #![tactic(auto)]
 
 ghost use Rattle.std.specs.Prelude.{cond, [], ◌∷◌, ◌≡◌, ◌+◌, ◌≤◌, ◌<◌, eqb, ltb, drop, length, take};
@@ -120,13 +120,7 @@ fn encode(chord: Chord, out: &mut [u8])
 }
 
 // Reads any bytes. The number is returned, 0 for an accepted text; `count` is written only with 4 and 5, `chord` only with 0.
-#[unsafe(no_mangle)]
-pub extern "C" fn nophtris_read(
-    text: &[u8],
-    errors: &mut [u16],
-    count: &mut u16,
-    chord: &mut [u8; 51],
-) -> u8
+pub fn nophtris_read(text: &[u8], errors: &mut [u16], count: &mut u16, chord: &mut [u8; 51]) -> u8
     ensures { Read text.now errors.old errors.new count.old count.new
         chord.old chord.new result }
 {
@@ -154,8 +148,7 @@ pub extern "C" fn nophtris_read(
 
 // Reads the bar at any position of any line. The number of reading it is returned, `position` goes one past it, and its place is written;
 // 8 (the line is too long) and 255 (the end) leave all lent memory as it was.
-#[unsafe(no_mangle)]
-pub extern "C" fn nophtris_step(
+pub fn nophtris_step(
     line: &[u8],
     position: &mut usize,
     errors: &mut [u16],
@@ -210,8 +203,7 @@ fn line_number(answer: endings::Answer) -> u8
 
 // Where the bar of any number lies in any body and any ending. With 0 the line that has it, its place in that line and its length are
 // written; 8 (a line is too long) and 9 (there is no such bar) leave all lent memory as it was.
-#[unsafe(no_mangle)]
-pub extern "C" fn nophtris_bar<'a>(
+pub fn nophtris_bar<'a>(
     body: &'a [u8],
     ending: &'a [u8],
     number: usize,
@@ -374,8 +366,7 @@ fn decode(bytes: &[u8]) -> Chord
 }
 
 // Writes any record. The number is returned, 0 for a written spelling; only then its length goes to `size`.
-#[unsafe(no_mangle)]
-pub extern "C" fn nophtris_write(chord: &[u8; 51], buffer: &mut [u8], size: &mut u16) -> u8
+pub fn nophtris_write(chord: &[u8; 51], buffer: &mut [u8], size: &mut u16) -> u8
     ensures { Write chord.now buffer.old buffer.new size.old size.new result }
 {
     if buffer.len() < 112 {
@@ -407,8 +398,7 @@ fn put_sounding(out: &mut [u8], keys: Keys)
 
 // Goes from any keys that sound to any record, over any base key. The number is returned, 0 for a chord that is not refused; only then the
 // messages stand in the output, their length in `size`, and the keys that sound now in `sounding`.
-#[unsafe(no_mangle)]
-pub extern "C" fn nophtris_midi(
+pub fn nophtris_midi(
     sounding: &mut [u8; 16],
     base: u8,
     chord: &[u8; 51],
