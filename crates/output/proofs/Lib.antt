@@ -1,3 +1,1 @@
-pub mod Counting
-pub mod Powers
 pub mod Puts

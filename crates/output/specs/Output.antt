@@ -1,7 +1,7 @@
 -- Output that waits in a lent buffer: the first so many of its bytes are taken, and what is put goes behind them.
 use Rattle.std.specs.Prelude.{List, ◌++◌, ◌≡◌, ℕ, ◌+◌, ◌-◌, min, length, replicate}
 use Rattle.std.proofs.lemmas.List.Edits.{sets}
-use Rattle.output.specs.Digits.{IsDigitCount, last_digits}
+use Rattle.io.specs.Digits.{IsDigitCount, last_digits}
 
 -- how many bytes of t have room behind the first n of b
 abbrev pub fitting : List ℕ → ℕ → List ℕ → ℕ

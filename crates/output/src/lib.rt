@@ -6,10 +6,7 @@ ghost use Rattle.std.specs.Prelude.{cond, [], ◌∷◌, ◌≡◌, ◌-◌, ◌
 ghost use Rattle.std.specs.Io.KnownBytes.{Appends};
 ghost use Rattle.output.specs.Output.{Put, PutNumber};
 
-mod number;
-
-use std::io;
-use std::io::Write;
+use std::io::{Error, Write};
 
 // How many bytes wait once all are written.
 const NONE: usize = 0;
@@ -76,14 +73,15 @@ pub fn put_number(out: &mut [u8], used: usize, n: u64, columns: usize) -> usize
     ensures { PutNumber n columns used result out.old out.new }
 {
     let mut text = [0u8; 20];
-    let k = number::decimal(n, &mut text);
+    let k = io::decimal(n, &mut text);
     let u = put_spaces(out, used, spaces(columns, k));
     put_bytes(out, u, &text[..k])
 }
 
 // Writes the first `used` bytes. None wait then. After an error some may be written; the buffer and its count stand as they were.
-pub fn flush<W: Write>(to: &mut W, out: &[u8], used: usize) -> io::Result<usize>
+pub fn flush<W: Write>(to: &mut W, out: &[u8], used: usize) -> Result<usize, Error>
     ensures none_wait { IfOk result (λ n. n ≡ 0) }
+    ensures beyond { length out.now < used → result ≡ Ok 0 }
     ensures written { used ≤ length out.now → OnOk result (Appends (W.contents to.old) (W.contents to.new) (take used out.now)) }
 {
     if used <= out.len() {
@@ -93,9 +91,10 @@ pub fn flush<W: Write>(to: &mut W, out: &[u8], used: usize) -> io::Result<usize>
 }
 
 // Makes room: writes what waits where it is `most` bytes or more. An error is as that of `flush`.
-pub fn room<W: Write>(to: &mut W, out: &[u8], used: usize, most: usize) -> io::Result<usize>
+pub fn room<W: Write>(to: &mut W, out: &[u8], used: usize, most: usize) -> Result<usize, Error>
     ensures waiting { IfOk result (λ n. n ≡ cond (ltb used most) used 0) }
     ensures kept { used < most → to.new ≡ to.old }
+    ensures enough { used < most → result ≡ Ok used }
     ensures written { most ≤ used → used ≤ length out.now →
         OnOk result (Appends (W.contents to.old) (W.contents to.new) (take used out.now)) }
 {

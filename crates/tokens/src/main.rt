@@ -3,7 +3,7 @@
 // length. Every number is right-justified in four columns.
 #![tactic(auto)]
 
-ghost use Rattle.output.specs.Counts.{IsPrefixLen};
+ghost use Rattle.io.specs.Counts.{IsPrefixLen};
 ghost use Rattle.token.specs.Token.{Room};
 
 use lines::Input;
@@ -100,7 +100,14 @@ fn answer_all<R: Read, W: Write>(
     let mut s = lines::start();
     let mut used = 0;
     while 0 < s.left {
-        s = lines::next(from, block, line, s)?;
+        s = match lines::next(from, block, line, s) {
+            Ok(next) => next,
+            // What is answered already is written before the error ends the program.
+            Err(e) => {
+                output::flush(to, out, used)?;
+                return Err(e);
+            }
+        };
         used = answer(to, out, used, line, s)?;
     }
     output::flush(to, out, used)?;

@@ -3,13 +3,10 @@
 #![tactic(auto)]
 
 ghost use Rattle.std.specs.Prelude.{◌<◌, ◌≤◌, length, IfOk};
-ghost use Rattle.output.specs.Counts.{IsPrefixLen};
-
-mod number;
+ghost use Rattle.io.specs.Counts.{IsPrefixLen};
 
 use lines::Input;
-use std::io;
-use std::io::{Read, Write};
+use std::io::{Error, Read, Write};
 use utf8::Found;
 
 // The value of a hexadecimal digit; any other byte counts as 0.
@@ -65,7 +62,7 @@ fn upper(b: u8) -> u8 {
 }
 
 // Writes digits in upper case.
-fn write_upper<W: Write>(to: &mut W, digits: &[u8]) -> io::Result<()> {
+fn write_upper<W: Write>(to: &mut W, digits: &[u8]) -> Result<(), Error> {
     let mut i = 0;
     while i < digits.len() {
         to.write_all(&[upper(digits[i])])?;
@@ -75,15 +72,15 @@ fn write_upper<W: Write>(to: &mut W, digits: &[u8]) -> io::Result<()> {
 }
 
 // Writes a code in hexadecimal, with at least four digits.
-fn write_code<W: Write>(to: &mut W, code: u32) -> io::Result<()> {
+fn write_code<W: Write>(to: &mut W, code: u32) -> Result<(), Error> {
     let mut digits = [0u8; 16];
-    let n = number::hex(code as u64, 4, &mut digits);
+    let n = io::hex(code as u64, 4, &mut digits);
     to.write_all(b" ")?;
     write_upper(to, &digits[..n])
 }
 
 // Writes what stands at a position, and answers the position after it.
-fn write_char<W: Write>(to: &mut W, bytes: &[u8], at: usize) -> io::Result<usize>
+fn write_char<W: Write>(to: &mut W, bytes: &[u8], at: usize) -> Result<usize, Error>
     requires { at < length bytes.now }
     ensures { IfOk result (λ n. (at < n) × (n ≤ length bytes.now)) }
 {
@@ -104,7 +101,7 @@ fn write_char<W: Write>(to: &mut W, bytes: &[u8], at: usize) -> io::Result<usize
 }
 
 // Writes what stands in the bytes, from position 0 on.
-fn write_chars<W: Write>(to: &mut W, bytes: &[u8]) -> io::Result<()> {
+fn write_chars<W: Write>(to: &mut W, bytes: &[u8]) -> Result<(), Error> {
     let mut at = 0;
     while at < bytes.len() {
         at = write_char(to, bytes, at)?;
@@ -122,7 +119,7 @@ fn is_end(bytes: &[u8], at: usize) -> bool {
 }
 
 // Writes `end` where nothing stands at the end of the bytes and far beyond it.
-fn write_end<W: Write>(to: &mut W, bytes: &[u8]) -> io::Result<()> {
+fn write_end<W: Write>(to: &mut W, bytes: &[u8]) -> Result<(), Error> {
     if is_end(bytes, bytes.len()) {
         if is_end(bytes, bytes.len() + 1000) {
             return to.write_all(b" end\n");
@@ -132,7 +129,7 @@ fn write_end<W: Write>(to: &mut W, bytes: &[u8]) -> io::Result<()> {
 }
 
 // Writes whether the bytes are well formed.
-fn write_verdict<W: Write>(to: &mut W, bytes: &[u8]) -> io::Result<()> {
+fn write_verdict<W: Write>(to: &mut W, bytes: &[u8]) -> Result<(), Error> {
     if utf8::well_formed(bytes) {
         return to.write_all(b"well");
     }
@@ -140,7 +137,7 @@ fn write_verdict<W: Write>(to: &mut W, bytes: &[u8]) -> io::Result<()> {
 }
 
 // Writes the answer to a line of bytes.
-fn write_answer<W: Write>(to: &mut W, line: &[u8]) -> io::Result<()> {
+fn write_answer<W: Write>(to: &mut W, line: &[u8]) -> Result<(), Error> {
     let mut octets = [0u8; 64];
     let n = read_octets(line, &mut octets);
     let bytes = &octets[..n];
@@ -158,7 +155,7 @@ fn is_comment(line: &[u8]) -> bool {
 }
 
 // Copies a comment, and answers any other line.
-fn write_line<W: Write>(to: &mut W, line: &[u8]) -> io::Result<()> {
+fn write_line<W: Write>(to: &mut W, line: &[u8]) -> Result<(), Error> {
     if is_comment(line) {
         to.write_all(line)?;
         return to.write_all(b"\n");
@@ -167,7 +164,7 @@ fn write_line<W: Write>(to: &mut W, line: &[u8]) -> io::Result<()> {
 }
 
 // Answers a line that is ready.
-fn answer<W: Write>(to: &mut W, line: &[u8], s: Input) -> io::Result<()>
+fn answer<W: Write>(to: &mut W, line: &[u8], s: Input) -> Result<(), Error>
     requires { IsPrefixLen s.len line.now }
 {
     let len = s.len;
@@ -183,7 +180,7 @@ fn answer_all<R: Read, W: Write>(
     to: &mut W,
     line: &mut [u8],
     block: &mut [u8],
-) -> io::Result<()> {
+) -> Result<(), Error> {
     let mut s = lines::start();
     while 0 < s.left {
         s = lines::next(from, block, line, s)?;
@@ -192,7 +189,7 @@ fn answer_all<R: Read, W: Write>(
     Ok(())
 }
 
-fn main(rt: HostRuntime) -> io::Result<()> {
+fn main(rt: HostRuntime) -> Result<(), Error> {
     let mut line = [0u8; 4096];
     let mut block = [0u8; 4096];
     answer_all(&mut rt.stdin(), &mut rt.stdout(), &mut line, &mut block)

@@ -3,7 +3,7 @@
 use native.Mathlib.Omega.{arith}
 use lib.ListN.{length-set}
 use borrow.Author.Rules.{rules}
-use Rattle.output.proofs.Counting.{prefix_len_of_le}
+use Rattle.io.proofs.Counting.{prefix_len_of_le}
 use Rattle.utf8_vectors.proofs.read_octets.Goals as goal
 
 pub returns-then-line-i : goal.returns-then-line-i
