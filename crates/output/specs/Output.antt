@@ -1,5 +1,6 @@
 -- Output that waits in a lent buffer: the first so many of its bytes are taken, and what is put goes behind them.
-use Rattle.std.specs.Prelude.{List, ◌++◌, ◌≡◌, ℕ, ◌+◌, ◌-◌, min, length, replicate}
+use Rattle.std.specs.Prelude.{Option, List, ◌++◌, ◌≡◌, ℕ, ◌+◌, ◌-◌, min, length, replicate, take}
+use Rattle.std.specs.Io.KnownBytes.{Appends}
 use Rattle.std.proofs.lemmas.List.Edits.{sets}
 use Rattle.io.specs.Digits.{IsDigitCount, last_digits}
 
@@ -22,3 +23,7 @@ pub record PutNumber (number columns n r : ℕ) (b b' : List ℕ) : Type 0 where
   pub places : ℕ
   pub fewest : IsDigitCount 10 1 number places
   pub put : Put (justified columns places number) n r b b'
+
+-- a first part of the bytes was appended to what a writer holds, where that is known
+abbrev pub AppendsPart : Option (List ℕ) → Option (List ℕ) → List ℕ → Type 0
+AppendsPart old new bytes = (k : ℕ) × Appends old new (take k bytes)

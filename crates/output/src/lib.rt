@@ -2,11 +2,11 @@
 // writer of the system does with the bytes cannot be said; all else is.
 #![tactic(auto)]
 
-ghost use Rattle.std.specs.Prelude.{cond, [], ◌∷◌, ◌≡◌, ◌-◌, ◌<◌, ◌≤◌, ltb, length, replicate, take, IfOk, OnOk};
+ghost use Rattle.std.specs.Prelude.{cond, [], ◌∷◌, ◌≡◌, ◌-◌, ◌<◌, ◌≤◌, ltb, length, replicate, take, IfOk, OnErr, OnOk};
 ghost use Rattle.std.specs.Io.KnownBytes.{Appends};
-ghost use Rattle.output.specs.Output.{Put, PutNumber};
+ghost use Rattle.output.specs.Output.{AppendsPart, Put, PutNumber};
 
-use std::io::{Error, Write};
+use std::io::{Error, ErrorKind, Write};
 
 // How many bytes wait once all are written.
 const NONE: usize = 0;
@@ -78,14 +78,32 @@ pub fn put_number(out: &mut [u8], used: usize, n: u64, columns: usize) -> usize
     put_bytes(out, u, &text[..k])
 }
 
-// Writes the first `used` bytes. None wait then. After an error some may be written; the buffer and its count stand as they were.
+// Writes all the bytes, in as many calls as it takes. After an error the writer has a first part of them.
+fn write_all<W: Write>(to: &mut W, bytes: &[u8]) -> Result<(), Error>
+    ensures written { OnOk result (Appends (W.contents to.old) (W.contents to.new) bytes.now) }
+    ensures failed { OnErr result (AppendsPart (W.contents to.old) (W.contents to.new) bytes.now) }
+{
+    let mut at = 0;
+    while at < bytes.len() {
+        let n = to.write(&bytes[at..])?;
+        if n == 0 {
+            return Err(Error::from(ErrorKind::WriteZero));
+        }
+        at += n;
+    }
+    Ok(())
+}
+
+// Writes the first `used` bytes. None wait then. After an error the writer has a first part of them; the buffer and its count stand as they
+// were.
 pub fn flush<W: Write>(to: &mut W, out: &[u8], used: usize) -> Result<usize, Error>
     ensures none_wait { IfOk result (λ n. n ≡ 0) }
     ensures beyond { length out.now < used → result ≡ Ok 0 }
     ensures written { used ≤ length out.now → OnOk result (Appends (W.contents to.old) (W.contents to.new) (take used out.now)) }
+    ensures failed { OnErr result (AppendsPart (W.contents to.old) (W.contents to.new) (take used out.now)) }
 {
     if used <= out.len() {
-        to.write_all(&out[..used])?;
+        write_all(to, &out[..used])?;
     }
     Ok(NONE)
 }
@@ -97,6 +115,7 @@ pub fn room<W: Write>(to: &mut W, out: &[u8], used: usize, most: usize) -> Resul
     ensures enough { used < most → result ≡ Ok used }
     ensures written { most ≤ used → used ≤ length out.now →
         OnOk result (Appends (W.contents to.old) (W.contents to.new) (take used out.now)) }
+    ensures failed { OnErr result (AppendsPart (W.contents to.old) (W.contents to.new) (take used out.now)) }
 {
     if used < most {
         return Ok(used);
