@@ -4,7 +4,7 @@ ghost use Rattle.std.specs.Prelude.{◌≤◌, ◌<◌};
 use crate::record::Record;
 use chord::Chord;
 use intervals::{IntervalList, IntervalSet};
-use note::OptionalNote;
+use note::Note;
 use reader::Reading;
 
 // Half of the output's buffer: where so much waits it is written before the next answer. The longest, 257 errors, is below 8,000 bytes.
@@ -17,10 +17,10 @@ pub(crate) fn put_next(out: &mut [u8], used: usize, n: u64) -> usize {
 }
 
 // Appends a note's letter and alteration, or -1 and 0 where there is none.
-fn put_note(out: &mut [u8], used: usize, note: OptionalNote) -> usize {
+fn put_note(out: &mut [u8], used: usize, note: Option<Note>) -> usize {
     match note {
-        OptionalNote::None => output::put_bytes(out, used, b" -1 0"),
-        OptionalNote::Some(n) => {
+        None => output::put_bytes(out, used, b" -1 0"),
+        Some(n) => {
             let l = n.literal;
             let m = n.modifier;
             let u = put_next(out, used, l.number() as u64);

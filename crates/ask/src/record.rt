@@ -4,7 +4,7 @@ use crate::fault::Fault;
 use crate::number::{Number, behind_space, next_number, next_signed};
 use chord::Chord;
 use intervals::{IntervalList, IntervalSet};
-use note::{Note, NoteLiteral, OptionalNote, RootModifier};
+use note::{Note, NoteLiteral, RootModifier};
 
 // A record, whether the numbers are one, and what is wrong with the line.
 #[derive(Clone, Copy)]
@@ -157,11 +157,11 @@ fn letter(n: u64) -> NoteLiteral {
 }
 
 // The note of a letter and an alteration, each one higher than it was.
-fn note(l: u64, a: u64) -> OptionalNote {
+fn note(l: u64, a: u64) -> Option<Note> {
     if l == 0 {
-        return OptionalNote::None;
+        return None;
     }
-    OptionalNote::Some(Note {
+    Some(Note {
         literal: letter(l - 1),
         modifier: modifier(a),
     })

@@ -2,8 +2,8 @@
 use Rattle.std.specs.Prelude.{List, [], ℕ}
 use Rattle.intervals.specs.Interval.{Set, empty}
 use Rattle.intervals.specs.Stored.{list_of, listed, members, set_of}
-use Rattle.note.specs.declared.OptionalNote.TheVariants.{None}
-use Rattle.note.specs.declared.OptionalNote.{OptionalNote}
+use Rattle.std.specs.declared.option.Option.TheVariants.{None}
+use Rattle.note.specs.Note.{OptionalNote}
 use Rattle.chord.specs.declared.Chord.{Chord}
 
 -- "the root, slash bass or none, normalized set and display list". "Sets are the same when they have the same members, display lists

@@ -3,18 +3,16 @@
 
 ghost use Rattle.std.specs.Prelude.{◌↔◌, ◌≡◌, true};
 ghost use Rattle.chord.specs.Chord.{four_of, no_chord, record_of};
-
-mod same;
+ghost use Rattle.intervals.specs.Stored.{members};
 
 use intervals::{IntervalList, IntervalSet};
-use note::OptionalNote;
-use same::{same_optional, same_set};
+use note::Note;
 
 // Root, slash bass or none, normalized set and display list. Every value is a record that a caller may hand over, also one without a root.
 #[derive(Clone, Copy)]
 pub struct Chord {
-    pub root: OptionalNote,
-    pub bass: OptionalNote,
+    pub root: Option<Note>,
+    pub bass: Option<Note>,
     pub normalized: IntervalSet,
     pub display: IntervalList,
 }
@@ -25,34 +23,33 @@ impl Chord {
         ensures { (result ≡ record_of no_chord) × (four_of result ≡ no_chord) }
     {
         Chord {
-            root: OptionalNote::None,
-            bass: OptionalNote::None,
+            root: None,
+            bass: None,
             normalized: IntervalSet::new(),
             display: IntervalList::new(),
         }
     }
 
-    // Have the two records the same four?
+    // Have the two records the same four? What lies behind the numbers of a display list is none of it, so that no derive says this.
     pub fn same(self, other: Chord) -> bool
         ensures { (result ≡ true) ↔ (four_of self ≡ four_of other) }
     {
-        let a = self.root;
-        let b = other.root;
-        if !same_optional(a, b) {
-            return false;
-        }
-        let c = self.bass;
-        let d = other.bass;
-        if !same_optional(c, d) {
-            return false;
-        }
-        let m = self.normalized;
-        let n = other.normalized;
-        if !same_set(m, n) {
-            return false;
-        }
-        let x = self.display;
-        let y = other.display;
-        x.same(y)
+        same_notes(self, other)
+            && same_set(self.normalized, other.normalized)
+            && self.display.same(other.display)
     }
+}
+
+// Have the two records the same root and the same bass?
+fn same_notes(a: Chord, b: Chord) -> bool
+    ensures { (result ≡ true) ↔ ((a.root ≡ b.root) × (a.bass ≡ b.bass)) }
+{
+    a.root == b.root && a.bass == b.bass
+}
+
+// Have the two sets the same members? A set has one number.
+fn same_set(a: IntervalSet, b: IntervalSet) -> bool
+    ensures { (result ≡ true) ↔ (members a ≡ members b) }
+{
+    a == b
 }

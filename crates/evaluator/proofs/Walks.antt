@@ -8,7 +8,7 @@ use lib.ListN.{length, drop, get_or, drop_of_length-le}
 use lib.Seq.{drop-cons}
 use Rattle.intervals.specs.Stored.{members}
 use Rattle.intervals.specs.Interval.{Set}
-use Rattle.note.specs.declared.OptionalNote.{OptionalNote}
+use Rattle.note.specs.Note.{OptionalNote}
 use Rattle.expression.specs.Expression.{exp_of}
 use Rattle.expression.specs.declared.expression.Exp.{Exp}
 use Rattle.display.specs.Display.{first_sus, sus_of}

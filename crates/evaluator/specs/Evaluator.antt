@@ -2,8 +2,8 @@
 -- `Evaluator::evaluate` lists them". Where the Rust pushes to `alts`, `omits` or `adds`, the list of what an expression pushes is given.
 use Rattle.std.specs.Prelude.{Bool, true, false, ◌&&◌, ◌||◌, cond, List, [], ◌∷◌, ℕ, max, eqb, leb}
 use Rattle.intervals.specs.Interval.{elem, Set, empty, insert, remove, remove_then_add, unison, minor_second, major_second, minor_third, major_third, perfect_fourth, augmented_fourth, diminished_fifth, perfect_fifth, augmented_fifth, minor_sixth, major_sixth, diminished_seventh, minor_seventh, major_seventh, flat_ninth, ninth, sharp_ninth, eleventh, sharp_eleventh, flat_thirteenth, thirteenth}
-use Rattle.note.specs.declared.OptionalNote.TheVariants as optional
-use Rattle.note.specs.declared.OptionalNote.{OptionalNote}
+use Rattle.std.specs.declared.option.Option.TheVariants as optional
+use Rattle.note.specs.Note.{OptionalNote}
 use Rattle.expression.specs.Expression.{on_add, on_extension, on_omit, on_slash_bass, on_sus, on_word}
 use Rattle.expression.specs.declared.expression.Exp.TheVariants.{Power, Bass, Maj, Maj7, Minor, HalfDim, Dim, Dim7, Alt, Aug}
 use Rattle.expression.specs.declared.expression.Exp.{Exp}

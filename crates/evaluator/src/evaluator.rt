@@ -14,7 +14,7 @@ use crate::stages::{
 };
 use expression::expression::Exp;
 use intervals::{IntervalList, IntervalSet, MAJOR_THIRD, PERFECT_FIFTH, UNISON};
-use note::OptionalNote;
+use note::Note;
 
 // What the expressions say before the stages.
 #[derive(Clone, Copy)]
@@ -24,7 +24,7 @@ pub struct Descriptor {
     pub sus: bool,
     pub maj: bool,
     pub tallest: u8,
-    pub bass: OptionalNote,
+    pub bass: Option<Note>,
 }
 
 // Which of the three walks over the expressions.
@@ -38,7 +38,7 @@ enum Pass {
 // The slash bass, the normalized set and the display list.
 #[derive(Clone, Copy)]
 pub struct Evaluated {
-    pub bass: OptionalNote,
+    pub bass: Option<Note>,
     pub set: IntervalSet,
     pub display: IntervalList,
 }
@@ -56,7 +56,7 @@ fn seed_defaults() -> Descriptor
         sus: false,
         maj: false,
         tallest: 0,
-        bass: OptionalNote::None,
+        bass: None,
     }
 }
 

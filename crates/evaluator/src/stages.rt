@@ -14,7 +14,7 @@ use intervals::{
     MINOR_SECOND, MINOR_SEVENTH, MINOR_SIXTH, MINOR_THIRD, NINTH, PERFECT_FIFTH, PERFECT_FOURTH,
     SHARP_ELEVENTH, SHARP_NINTH, THIRTEENTH,
 };
-use note::OptionalNote;
+use note::Note;
 
 // A sixth or a seventh goes into the set at once.
 fn insert_direct(s: IntervalSet, interval: u8) -> IntervalSet
@@ -99,11 +99,11 @@ pub(crate) fn ext_at(max: u8, e: Exp) -> u8
     max
 }
 
-pub(crate) fn bass_of(b: OptionalNote, e: Exp) -> OptionalNote
+pub(crate) fn bass_of(b: Option<Note>, e: Exp) -> Option<Note>
     ensures { result ≡ bass_of b e }
 {
     match e {
-        Exp::SlashBass(note) => OptionalNote::Some(note),
+        Exp::SlashBass(note) => Some(note),
         _ => b,
     }
 }

@@ -4,7 +4,12 @@
 use Rattle.std.specs.Prelude.{List, [], ◌∷◌, ◌++◌, ℕ}
 use Rattle.expression.specs.declared.parser_error.ParserError.TheVariants.{IllegalToken, UnexpectedNote, DuplicateModifier, InconsistentExtension, DuplicateExtension, InvalidExtension, WrongExpressionTarget, UnexpectedModifier, MissingRootNote, ThreeConsecutiveSemitones, MissingAddTarget, IllegalOrMissingOmitTarget, IllegalAddTarget, IllegalSlashNotation, UnexpectedClosingParenthesis, MissingClosingParenthesis, NestedParenthesis, InvalidPowerExpression}
 use Rattle.expression.specs.declared.parser_error.ParserError.{ParserError}
-use Rattle.expression.specs.declared.parser_error.Row.{Row}
+
+pub record Row : Type 0 where
+  pub kind : ℕ
+  pub a : ℕ
+  pub b : ℕ
+  pub c : ℕ
 
 abbrev pub row4 : ℕ → ℕ → ℕ → ℕ → Row
 row4 k x y z = record { kind = k; a = x; b = y; c = z }

@@ -1,11 +1,11 @@
-// The expressions that the parser makes of tokens, and an expression as one number of a lent array.
+// The expressions that the parser makes of tokens, and an expression as one number.
 ghost use Rattle.std.specs.Prelude.{◌≡◌, ◌+◌, ◌*◌, ◌<◌};
 ghost use Rattle.expression.specs.Expression.{packed, exp_number, exp_by, exp_of};
 
 use note::Note;
 
 // An interval is its number; the second number of Extension, Add and Omit is a position.
-#[derive(Clone, Copy)]
+#[derive(Clone, Copy, PartialEq, Eq)]
 pub enum Exp {
     Power,
     Bass,
@@ -24,24 +24,12 @@ pub enum Exp {
     SlashBass(Note),
 }
 
-fn wide8(n: u8) -> u32
-    ensures { (result ≡ n) × (result < 256) }
-{
-    n as u32
-}
-
-fn wide16(n: u16) -> u32
-    ensures { (result ≡ n) × (result < 65536) }
-{
-    n as u32
-}
-
 // Kind, interval or note, and position in one number.
 fn pack(kind: u32, value: u8, pos: u16) -> u32
     requires { kind < 16 }
     ensures { (result ≡ packed kind value pos) × (exp_of result ≡ exp_by kind value pos) }
 {
-    kind + 16 * wide8(value) + 4096 * wide16(pos)
+    kind + 16 * u32::from(value) + 4096 * u32::from(pos)
 }
 
 // The expression of a kind below 15.
@@ -68,7 +56,7 @@ fn by_kind(kind: u32, value: u8, pos: u16) -> Exp
 }
 
 impl Exp {
-    // The expression of a number; every number has one.
+    // The expression of a number; every number has one, so that it is no TryFrom.
     pub fn from_number(number: u32) -> Exp
         ensures { result ≡ exp_of number }
     {
@@ -76,12 +64,14 @@ impl Exp {
         let pos = number / 4096 % 65536;
         by_kind(number % 16, value as u8, pos as u16)
     }
+}
 
-    // The expression as a number, from which it is found again.
-    pub fn number(self) -> u32
-        ensures { (result ≡ exp_number self) × (exp_of result ≡ self) }
-    {
-        match self {
+// The expression as a number, from which it is found again.
+impl From<Exp> for u32 {
+    ghost from_gives = { λ exp number. (number ≡ exp_number exp) × (exp_of number ≡ exp) };
+
+    fn from(exp: Exp) -> u32 {
+        match exp {
             Exp::Power => pack(0, 0, 0),
             Exp::Bass => pack(1, 0, 0),
             Exp::Maj => pack(2, 0, 0),
@@ -96,7 +86,7 @@ impl Exp {
             Exp::Extension(i, p) => pack(11, i, p),
             Exp::Add(i, p) => pack(12, i, p),
             Exp::Omit(i, p) => pack(13, i, p),
-            Exp::SlashBass(n) => pack(14, n.number(), 0),
+            Exp::SlashBass(n) => pack(14, u8::from(n), 0),
         }
     }
 }

@@ -1,9 +1,10 @@
-// The errors of parsing and validation, and an error as four numbers of a lent list.
-ghost use Rattle.std.specs.Prelude.{◌≡◌, ◌++◌, ◌+◌, ◌*◌, ◌≤◌, length, take, drop};
-ghost use Rattle.expression.specs.ParserError.{numbers_of, row4, row_of};
+// The errors of parsing and validation, an error as four numbers, and the errors that a lent list holds so.
+ghost use Rattle.std.specs.Prelude.{[], ◌∷◌, ◌≡◌, ◌++◌, ◌+◌, ◌*◌, ◌≤◌, length, take, drop};
+ghost use Rattle.expression.specs.ParserError.{numbers_of};
+ghost use Rattle.expression.specs.State.{Wrote};
 
 // A position is a byte offset. Kind 3 carries the `priority` of the repeated expression, kind 4 an interval, kind 10 three.
-#[derive(Clone, Copy)]
+#[derive(Clone, Copy, PartialEq, Eq)]
 pub enum ParserError {
     IllegalToken(u16),
     UnexpectedNote(u16),
@@ -26,42 +27,30 @@ pub enum ParserError {
 }
 
 // The four numbers of an error: its kind, then its values, then zeros.
-#[derive(Clone, Copy)]
-pub struct Row {
-    pub kind: u16,
-    pub a: u16,
-    pub b: u16,
-    pub c: u16,
-}
+impl From<ParserError> for [u16; 4] {
+    ghost from_gives = { λ error numbers. numbers ≡ numbers_of error };
 
-fn row_of(kind: u16, a: u16, b: u16, c: u16) -> Row
-    ensures { result ≡ row4 kind a b c }
-{
-    Row { kind, a, b, c }
-}
-
-pub fn numbers(e: ParserError) -> Row
-    ensures { result ≡ row_of e }
-{
-    match e {
-        ParserError::IllegalToken(a) => row_of(1, a, 0, 0),
-        ParserError::UnexpectedNote(a) => row_of(2, a, 0, 0),
-        ParserError::DuplicateModifier(a) => row_of(3, a, 0, 0),
-        ParserError::InconsistentExtension(a) => row_of(4, a, 0, 0),
-        ParserError::DuplicateExtension(a) => row_of(5, a, 0, 0),
-        ParserError::InvalidExtension(a) => row_of(6, a, 0, 0),
-        ParserError::WrongExpressionTarget(a) => row_of(7, a, 0, 0),
-        ParserError::UnexpectedModifier(a) => row_of(8, a, 0, 0),
-        ParserError::MissingRootNote => row_of(9, 0, 0, 0),
-        ParserError::ThreeConsecutiveSemitones(a, b, c) => row_of(10, a, b, c),
-        ParserError::MissingAddTarget(a, b) => row_of(11, a, b, 0),
-        ParserError::IllegalOrMissingOmitTarget(a, b) => row_of(12, a, b, 0),
-        ParserError::IllegalAddTarget(a, b) => row_of(13, a, b, 0),
-        ParserError::IllegalSlashNotation(a) => row_of(14, a, 0, 0),
-        ParserError::UnexpectedClosingParenthesis(a) => row_of(15, a, 0, 0),
-        ParserError::MissingClosingParenthesis(a) => row_of(16, a, 0, 0),
-        ParserError::NestedParenthesis(a) => row_of(17, a, 0, 0),
-        ParserError::InvalidPowerExpression => row_of(18, 0, 0, 0),
+    fn from(error: ParserError) -> [u16; 4] {
+        match error {
+            ParserError::IllegalToken(a) => [1, a, 0, 0],
+            ParserError::UnexpectedNote(a) => [2, a, 0, 0],
+            ParserError::DuplicateModifier(a) => [3, a, 0, 0],
+            ParserError::InconsistentExtension(a) => [4, a, 0, 0],
+            ParserError::DuplicateExtension(a) => [5, a, 0, 0],
+            ParserError::InvalidExtension(a) => [6, a, 0, 0],
+            ParserError::WrongExpressionTarget(a) => [7, a, 0, 0],
+            ParserError::UnexpectedModifier(a) => [8, a, 0, 0],
+            ParserError::MissingRootNote => [9, 0, 0, 0],
+            ParserError::ThreeConsecutiveSemitones(a, b, c) => [10, a, b, c],
+            ParserError::MissingAddTarget(a, b) => [11, a, b, 0],
+            ParserError::IllegalOrMissingOmitTarget(a, b) => [12, a, b, 0],
+            ParserError::IllegalAddTarget(a, b) => [13, a, b, 0],
+            ParserError::IllegalSlashNotation(a) => [14, a, 0, 0],
+            ParserError::UnexpectedClosingParenthesis(a) => [15, a, 0, 0],
+            ParserError::MissingClosingParenthesis(a) => [16, a, 0, 0],
+            ParserError::NestedParenthesis(a) => [17, a, 0, 0],
+            ParserError::InvalidPowerExpression => [18, 0, 0, 0],
+        }
     }
 }
 
@@ -70,10 +59,31 @@ pub fn store(errs: &mut [u16], n: usize, e: ParserError)
     requires { 4 * n + 4 ≤ length errs.old }
     ensures { errs.new ≡ take (4 * n) errs.old ++ numbers_of e ++ drop (4 * n + 4) errs.old }
 {
-    let r = numbers(e);
-    let i = 4 * n;
-    errs[i] = r.kind;
-    errs[i + 1] = r.a;
-    errs[i + 2] = r.b;
-    errs[i + 3] = r.c;
+    let numbers = <[u16; 4]>::from(e);
+    errs[4 * n..4 * n + 4].copy_from_slice(&numbers);
+}
+
+// The errors that a lent list begins with.
+#[derive(Drop)]
+pub struct Errors<'a> {
+    pub list: &'a mut [u16],
+    pub count: usize,
+}
+
+impl<'a> Errors<'a> {
+    // None yet.
+    pub fn new(list: &'a mut [u16]) -> Errors<'a>
+        ensures { (result.count ≡ 0) × (result.list.now ≡ list.old) }
+    {
+        Errors { list, count: 0 }
+    }
+
+    // One error more.
+    pub fn push(&mut self, e: ParserError)
+        requires { 4 * self.old.count + 4 ≤ length self.old.list.now }
+        ensures { Wrote self.old.count self.new.count (e ∷ []) self.old.list.now self.new.list.now }
+    {
+        store(self.list, self.count, e);
+        self.count += 1;
+    }
 }

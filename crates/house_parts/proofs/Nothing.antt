@@ -11,8 +11,8 @@ use Rattle.chord.specs.Chord.{Four, no_chord}
 use Rattle.intervals.proofs.Whole.{none-says}
 use Rattle.intervals.specs.Interval.{Set, empty}
 use Rattle.intervals.specs.Stored.{none_from, outside}
-use Rattle.note.specs.declared.OptionalNote.TheVariants.{None, Some}
-use Rattle.note.specs.declared.OptionalNote.{OptionalNote}
+use Rattle.std.specs.declared.option.Option.TheVariants.{None, Some}
+use Rattle.note.specs.Note.{OptionalNote}
 use Rattle.house_parts.specs.House.{is_some}
 use Rattle.house_parts.specs.Question.{nothing_else, realizable, same_list}
 use Rattle.house_parts.proofs.Bools.{and_left, and_right}

@@ -3,8 +3,8 @@ use Rattle.std.specs.Prelude.{Bool, true, false, not, ◌&&◌, ◌||◌, cond, 
 use Rattle.intervals.specs.Interval.{elem, Set, minor_second, major_second, minor_third, major_third, perfect_fourth, augmented_fourth, diminished_fifth, perfect_fifth, augmented_fifth, minor_sixth, major_sixth, diminished_seventh, minor_seventh, major_seventh, flat_ninth, ninth, sharp_ninth, eleventh, sharp_eleventh, flat_thirteenth, thirteenth}
 use Rattle.note.specs.Note.{note_of}
 use Rattle.note.specs.declared.Note.{Note}
-use Rattle.note.specs.declared.OptionalNote.TheVariants as optional
-use Rattle.note.specs.declared.OptionalNote.{OptionalNote}
+use Rattle.std.specs.declared.option.Option.TheVariants as optional
+use Rattle.note.specs.Note.{OptionalNote}
 use Rattle.display.specs.Display.{display_of}
 use Rattle.expression.specs.declared.expression.Exp.TheVariants.{Minor, Dim7, Sus, Extension, Add, Omit, SlashBass}
 use Rattle.expression.specs.declared.expression.Exp.{Exp}

@@ -1,7 +1,7 @@
 // Which parts the house spelling of a set and K names.
 ghost use Rattle.std.specs.Prelude.{not, ◌&&◌, ◌||◌, ◌≡◌, ◌<◌};
 ghost use Rattle.intervals.specs.Stored.{members};
-ghost use Rattle.note.specs.declared.OptionalNote.{OptionalNote};
+ghost use Rattle.note.specs.Note.{OptionalNote};
 ghost use Rattle.house_parts.specs.House.{condition_at, is_sus, omit3, omit5, parts};
 
 use crate::kind::SusKind;

@@ -14,7 +14,7 @@ use intervals::{
     FLAT_THIRTEENTH, IntervalList, IntervalSet, MAJOR_SIXTH, MAJOR_THIRD, MINOR_SECOND,
     MINOR_THIRD, NINTH, OCTAVE, PERFECT_FIFTH, SHARP_ELEVENTH, THIRTEENTH, UNISON,
 };
-use note::OptionalNote;
+use note::Note;
 
 // If a then b.
 fn implies(a: bool, b: bool) -> bool
@@ -86,12 +86,12 @@ fn is_realizable_by(k: SusKind, set: IntervalSet, list: IntervalList) -> bool
     is_display(list, set, k)
 }
 
-fn is_some(note: OptionalNote) -> bool
+fn is_some(note: Option<Note>) -> bool
     ensures { result ≡ is_some note }
 {
     match note {
-        OptionalNote::None => false,
-        OptionalNote::Some(_) => true,
+        None => false,
+        Some(_) => true,
     }
 }
 

@@ -10,7 +10,7 @@ use native.Mathlib.Omega.{arith}
 use lib.Dec.{T, eqb, leb, leb→le}
 use borrow.Author.Tests.{le-ltb}
 use Rattle.intervals.specs.Interval.{elem, Set, empty, insert, semitones}
-use Rattle.note.specs.declared.OptionalNote.{OptionalNote}
+use Rattle.note.specs.Note.{OptionalNote}
 use Rattle.expression.specs.declared.expression.Exp.TheVariants.{Power, Bass, Maj, Maj7, Minor, HalfDim, Dim, Dim7, Alt, Aug, Sus, Extension, Add, Omit, SlashBass}
 use Rattle.expression.specs.declared.expression.Exp.{Exp}
 use Rattle.expression.specs.declared.parser_error.ParserError.TheVariants.{DuplicateModifier, DuplicateExtension, InvalidExtension}

@@ -10,7 +10,7 @@ use native.Mathlib.Omega.{arith}
 use lib.Dec.{T, eqb, ltb, ltb→lt}
 use borrow.Author.Tests.{ltb-false, ltb-true, ne_eqb}
 use Rattle.intervals.specs.Interval.{elem, Set, empty, insert, remove, remove_then_add}
-use Rattle.note.specs.declared.OptionalNote.{OptionalNote}
+use Rattle.note.specs.Note.{OptionalNote}
 use Rattle.display.specs.Display.{first_sus}
 use Rattle.evaluator.specs.Evaluator.{fold_left, any, direct, alter, omit, add, alter_by, omit_by, add_by, alterations, alts_of, omits_of, adds_of, apply_form, apply_sus, base_form, imply, imply7, imply9, imply11, implied, implied9, implied11, implied13, is_maj, is_major, is_sus4, max_ext, prune6, prune11, remove_thirds, seed, eval_set}
 use Rattle.evaluator.specs.declared.ast.BaseForm.TheVariants as form

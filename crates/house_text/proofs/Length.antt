@@ -11,8 +11,8 @@ use Rattle.intervals.specs.Interval.{Set}
 use Rattle.note.specs.declared.Note.{Note}
 use Rattle.note.specs.declared.NoteLiteral.TheVariants.{C, D, E, F, G, A, B}
 use Rattle.note.specs.declared.NoteLiteral.{NoteLiteral}
-use Rattle.note.specs.declared.OptionalNote.TheVariants.{None, Some}
-use Rattle.note.specs.declared.OptionalNote.{OptionalNote}
+use Rattle.std.specs.declared.option.Option.TheVariants.{None, Some}
+use Rattle.note.specs.Note.{OptionalNote}
 use Rattle.note.specs.declared.RootModifier.TheVariants.{Natural, Sharp, Flat}
 use Rattle.note.specs.declared.RootModifier.{RootModifier}
 use Rattle.house_parts.specs.House.{kind_in}

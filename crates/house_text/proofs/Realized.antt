@@ -16,8 +16,8 @@ use Rattle.intervals.specs.Interval.{Set, empty}
 use Rattle.note.specs.declared.Note.{Note}
 use Rattle.note.specs.declared.NoteLiteral.TheVariants.{C, D, E, F, G, A, B}
 use Rattle.note.specs.declared.NoteLiteral.{NoteLiteral}
-use Rattle.note.specs.declared.OptionalNote.TheVariants.{None, Some}
-use Rattle.note.specs.declared.OptionalNote.{OptionalNote}
+use Rattle.std.specs.declared.option.Option.TheVariants.{None, Some}
+use Rattle.note.specs.Note.{OptionalNote}
 use Rattle.display.specs.Display.{display_of, first_sus, order}
 use Rattle.evaluator.specs.Evaluator.{eval_set}
 use Rattle.expression.specs.declared.expression.Exp.{Exp}

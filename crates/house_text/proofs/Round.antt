@@ -10,7 +10,7 @@ use lib.Dec.{T, eqb}
 use lib.ListN.{length, get_or}
 use lib.Seq.{ext_get_or}
 use Rattle.intervals.specs.Interval.{Set, insert, remove}
-use Rattle.note.specs.declared.OptionalNote.{OptionalNote}
+use Rattle.note.specs.Note.{OptionalNote}
 use Rattle.evaluator.specs.Evaluator.{eval_set}
 use Rattle.house_parts.specs.House.{is_flat2, is_second, is_sharp4, is_sus, parts, spell_exps}
 use Rattle.house_parts.specs.declared.kind.SusKind.TheVariants.{Plain, Flat2, Second, Sharp4}

@@ -2,4 +2,3 @@ pub mod Store
 pub mod Bits
 pub mod Semitones
 pub mod Whole
-pub mod Same

@@ -61,12 +61,11 @@ pub fn st(interval: u8) -> u8
     requires { interval < 23 }
     ensures { result ≡ semitones interval }
 {
-    let i = interval as usize;
-    SEMITONES[i]
+    SEMITONES[interval as usize]
 }
 
 // Which of the 23 intervals are members: the binary digits of a number, the lowest first. A digit from 23 on is a member outside the table.
-#[derive(Clone, Copy)]
+#[derive(Clone, Copy, PartialEq, Eq)]
 pub struct IntervalSet {
     pub bits: u32,
 }
@@ -90,9 +89,8 @@ impl IntervalSet {
         requires { interval < 23 }
         ensures { members result ≡ insert (members self) interval }
     {
-        let bits = self.bits;
         IntervalSet {
-            bits: bits | (1 << interval),
+            bits: self.bits | (1 << interval),
         }
     }
 
@@ -100,9 +98,8 @@ impl IntervalSet {
         requires { interval < 23 }
         ensures { members result ≡ remove (members self) interval }
     {
-        let bits = self.bits;
         IntervalSet {
-            bits: bits ^ (bits & (1 << interval)),
+            bits: self.bits ^ (self.bits & (1 << interval)),
         }
     }
 
@@ -155,25 +152,20 @@ impl IntervalList {
     pub fn count(self) -> usize
         ensures { (result ≡ length (listed self)) × (result ≤ 23) }
     {
-        let len = self.len;
-        if len < 23 { len } else { 23 }
+        self.len.min(23)
+    }
+
+    // The numbers of the list.
+    pub fn as_slice(&self) -> &[u8]
+        ensures { result.now ≡ listed self.now }
+    {
+        &self.numbers[..self.count()]
     }
 
     // Have the two lists the same numbers in the same order?
     pub fn same(self, other: IntervalList) -> bool
         ensures { (result ≡ true) ↔ (listed self ≡ listed other) }
     {
-        let n = self.count();
-        if n != other.count() {
-            return false;
-        }
-        let mut i = 0;
-        while i < n {
-            if self.numbers[i] != other.numbers[i] {
-                return false;
-            }
-            i += 1;
-        }
-        true
+        self.as_slice() == other.as_slice()
     }
 }

@@ -13,8 +13,8 @@ use borrow.Author.Tests.{eqb-true, leb-false, le-leb, le-ltb, lt-leb, lt-ltb, lt
 use Rattle.intervals.specs.Interval.{empty, insert, semitones, table}
 use Rattle.note.specs.Note.{pitch_class}
 use Rattle.note.specs.declared.Note.{Note}
-use Rattle.note.specs.declared.OptionalNote.TheVariants.{None, Some}
-use Rattle.note.specs.declared.OptionalNote.{OptionalNote}
+use Rattle.std.specs.declared.option.Option.TheVariants.{None, Some}
+use Rattle.note.specs.Note.{OptionalNote}
 use Rattle.keys.specs.Keys.{bass_keys, display_keys, is_key, is_outside, keys_over, outside, wants}
 use Rattle.keys.specs.Stored.{Wants, members}
 use Rattle.keys.specs.declared.wanted.Wanted.{Wanted}

@@ -5,8 +5,8 @@ use Rattle.std.proofs.Math.IntN.{sub_ℕ}
 use Rattle.chord.specs.Chord.{Four}
 use Rattle.intervals.specs.Interval.{Set, semitones}
 use Rattle.note.specs.Note.{pitch_class}
-use Rattle.note.specs.declared.OptionalNote.TheVariants.{None, Some}
-use Rattle.note.specs.declared.OptionalNote.{OptionalNote}
+use Rattle.std.specs.declared.option.Option.TheVariants.{None, Some}
+use Rattle.note.specs.Note.{OptionalNote}
 
 -- "A display interval's key is a base key .. plus the root's pitch class .. plus its semitones"; `from` is the sum of the first two
 unfoldable pub display_keys : ℕ → List ℕ → List ℤ

@@ -10,7 +10,7 @@ ghost use Rattle.note.specs.Note.{pitch_class};
 use crate::Keys;
 use chord::Chord;
 use intervals::{IntervalList, st};
-use note::{Note, OptionalNote};
+use note::Note;
 
 // Those from 0 to 127 of the keys that a chord wants, and whether it wants others.
 #[derive(Clone, Copy)]
@@ -72,12 +72,12 @@ fn add_list(from: u16, list: IntervalList) -> Wanted
 }
 
 // The key of a bass, an octave lower, if there is one.
-fn add_bass(w: Wanted, base: u8, bass: OptionalNote) -> Wanted
+fn add_bass(w: Wanted, base: u8, bass: Option<Note>) -> Wanted
     ensures { (zs : List ℤ) → Wants w zs → Wants result (zs ++ bass_keys base bass) }
 {
     match bass {
-        OptionalNote::None => w,
-        OptionalNote::Some(note) => {
+        None => w,
+        Some(note) => {
             let key = key_of(base, note);
             if 12 <= key {
                 return add(w, key - 12);
@@ -99,11 +99,11 @@ pub fn keys_of(base: u8, chord: Chord) -> Wanted
     let bass = chord.bass;
     let list = chord.display;
     match root {
-        OptionalNote::None => Wanted {
+        None => Wanted {
             keys: Keys::new(),
             outside: false,
         },
-        OptionalNote::Some(note) => {
+        Some(note) => {
             let w = add_list(key_of(base, note), list);
             add_bass(w, base, bass)
         }

@@ -10,7 +10,7 @@ ghost use Rattle.io.specs.Counts.{IsPrefixLen};
 use chord::Chord;
 use intervals::{IntervalList, IntervalSet};
 use lines::Input;
-use note::{Note, OptionalNote, RootModifier};
+use note::{Note, RootModifier};
 use reader::{Answer, Reading};
 use std::io;
 use std::io::{Read, Write};
@@ -41,10 +41,10 @@ fn put_note(out: &mut [u8], used: usize, n: Note) -> usize {
 }
 
 // Appends a note, or -1 and 0 where there is none.
-fn put_note_or_none(out: &mut [u8], used: usize, note: OptionalNote) -> usize {
+fn put_note_or_none(out: &mut [u8], used: usize, note: Option<Note>) -> usize {
     match note {
-        OptionalNote::Some(n) => put_note(out, used, n),
-        OptionalNote::None => {
+        Some(n) => put_note(out, used, n),
+        None => {
             let u = put_alteration(out, used, RootModifier::Flat);
             put_number(out, u, 0)
         }

@@ -1,8 +1,8 @@
 -- What the tokens after the one that is read can be to it. Where there is no token it is Other: the Rust's `peek` gives none there, which
 -- is no End.
 use Rattle.std.specs.Prelude.{Bool, true, false, ℕ}
-use Rattle.note.specs.declared.OptionalNote.TheVariants as optional
-use Rattle.note.specs.declared.OptionalNote.{OptionalNote}
+use Rattle.std.specs.declared.option.Option.TheVariants as optional
+use Rattle.note.specs.Note.{OptionalNote}
 use Rattle.note.specs.declared.RootModifier.TheVariants as modifier
 use Rattle.note.specs.declared.RootModifier.{RootModifier}
 use Rattle.token.specs.declared.TokenType.TheVariants as type

@@ -4,7 +4,7 @@
 ghost use Rattle.std.specs.Prelude.{◌≡◌};
 ghost use Rattle.lookahead.specs.Next.{next_of, number_in, is_number, sign_in, is_sign, is_maj7, is_end, note_from};
 
-use note::{Note, NoteLiteral, OptionalNote, RootModifier};
+use note::{Note, NoteLiteral, RootModifier};
 use token::TokenType;
 
 #[derive(Clone, Copy)]
@@ -129,17 +129,17 @@ impl Next {
     }
 
     // The note that begins here, with the sign of the token after it.
-    pub fn note(self, modifier: RootModifier) -> OptionalNote
+    pub fn note(self, modifier: RootModifier) -> Option<Note>
         ensures { result ≡ note_from self modifier }
     {
         match self {
-            Next::Note(literal) => OptionalNote::Some(Note { literal, modifier }),
-            Next::Sharp => OptionalNote::None,
-            Next::Flat => OptionalNote::None,
-            Next::Extension(_) => OptionalNote::None,
-            Next::Maj7 => OptionalNote::None,
-            Next::Eof => OptionalNote::None,
-            Next::Other => OptionalNote::None,
+            Next::Note(literal) => Some(Note { literal, modifier }),
+            Next::Sharp => None,
+            Next::Flat => None,
+            Next::Extension(_) => None,
+            Next::Maj7 => None,
+            Next::Eof => None,
+            Next::Other => None,
         }
     }
 }

@@ -14,8 +14,8 @@ use Rattle.chord.specs.Chord.{Four}
 use Rattle.intervals.specs.Stored.{listed}
 use Rattle.intervals.specs.Interval.{Set, empty, insert}
 use Rattle.intervals.specs.declared.IntervalList.{IntervalList}
-use Rattle.note.specs.declared.OptionalNote.TheVariants.{None, Some}
-use Rattle.note.specs.declared.OptionalNote.{OptionalNote}
+use Rattle.std.specs.declared.option.Option.TheVariants.{None, Some}
+use Rattle.note.specs.Note.{OptionalNote}
 use Rattle.note.specs.declared.RootModifier.TheVariants.{Natural}
 use Rattle.nophtris.specs.Boundary.{are_bits, chord_bytes, is_alteration, list_bytes, modifier_in, note_bytes, set_bytes}
 

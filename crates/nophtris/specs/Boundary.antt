@@ -9,8 +9,8 @@ use Rattle.intervals.specs.Interval.{Set}
 use Rattle.keys.specs.Stored.{keys_bytes, keys_in}
 use Rattle.midi.specs.Midi as midi
 use Rattle.note.specs.Note.{alteration_of, letter_number, letter_of}
-use Rattle.note.specs.declared.OptionalNote.TheVariants.{None, Some}
-use Rattle.note.specs.declared.OptionalNote.{OptionalNote}
+use Rattle.std.specs.declared.option.Option.TheVariants.{None, Some}
+use Rattle.note.specs.Note.{OptionalNote}
 use Rattle.note.specs.declared.RootModifier.TheVariants.{Natural, Sharp, Flat}
 use Rattle.note.specs.declared.RootModifier.{RootModifier}
 use Rattle.reader.specs.Reader as reader

@@ -17,7 +17,7 @@ use chord::Chord;
 use intervals::{IntervalList, IntervalSet};
 use keys::Keys;
 use keys::bytes::{byte_of, keys_in};
-use note::{Note, NoteLiteral, OptionalNote, RootModifier};
+use note::{Note, NoteLiteral, RootModifier};
 
 // Writes a byte at n and answers the place behind it.
 fn put(out: &mut [u8], n: usize, byte: u8) -> usize
@@ -39,16 +39,16 @@ fn alteration(m: RootModifier) -> u8
     }
 }
 
-fn put_note(out: &mut [u8], n: usize, note: OptionalNote) -> usize
+fn put_note(out: &mut [u8], n: usize, note: Option<Note>) -> usize
     requires { n + 2 ≤ length out.old }
     ensures { Put n result (note_bytes note) out.old out.new }
 {
     match note {
-        OptionalNote::None => {
+        None => {
             let m = put(out, n, 255);
             put(out, m, 0)
         }
-        OptionalNote::Some(x) => {
+        Some(x) => {
             let l = x.literal;
             let a = x.modifier;
             let m = put(out, n, l.number());
@@ -249,13 +249,13 @@ fn is_alteration(a: u8) -> bool
 }
 
 // The note of two bytes; none where the letter is 255.
-fn note(letter: u8, alteration: u8) -> OptionalNote
+fn note(letter: u8, alteration: u8) -> Option<Note>
     ensures { result ≡ note_in letter alteration }
 {
     if letter == 255 {
-        return OptionalNote::None;
+        return None;
     }
-    OptionalNote::Some(Note {
+    Some(Note {
         literal: NoteLiteral::from_number(letter),
         modifier: modifier(alteration),
     })

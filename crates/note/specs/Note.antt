@@ -1,5 +1,5 @@
 -- Notes: a letter and a modifier, and the numbers that the listing gives them.
-use Rattle.std.specs.Prelude.{[], ◌∷◌, ℕ, ◌+◌, ◌*◌, ◌/◌, ◌%◌, ℤ, pos, negsuc, get_or}
+use Rattle.std.specs.Prelude.{Option, [], ◌∷◌, ℕ, ◌+◌, ◌*◌, ◌/◌, ◌%◌, ℤ, pos, negsuc, get_or}
 use Rattle.intervals.specs.Interval.{semitones}
 use Rattle.note.specs.declared.Note.{Note}
 use Rattle.note.specs.declared.NoteLiteral.TheVariants.{C, D, E, F, G, A, B}
@@ -65,3 +65,7 @@ pitch_class n = (letter_class n.literal + modifier_class n.modifier) % 12
 -- the pitch class of the interval i above a root, 0 to 11
 abbrev pub member_class : Note → ℕ → ℕ
 member_class root i = (pitch_class root + semitones i) % 12
+
+-- "the root, slash bass or none"
+abbrev pub OptionalNote : Type 0
+OptionalNote = Option Note

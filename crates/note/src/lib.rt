@@ -10,7 +10,7 @@ mod pitch;
 
 use pitch::{letter_class, modifier_class};
 
-#[derive(Clone, Copy)]
+#[derive(Clone, Copy, PartialEq, Eq)]
 pub enum NoteLiteral {
     C,
     D,
@@ -21,32 +21,25 @@ pub enum NoteLiteral {
     B,
 }
 
-#[derive(Clone, Copy)]
+#[derive(Clone, Copy, PartialEq, Eq)]
 pub enum RootModifier {
     Natural,
     Sharp,
     Flat,
 }
 
-#[derive(Clone, Copy)]
+#[derive(Clone, Copy, PartialEq, Eq)]
 pub struct Note {
     pub literal: NoteLiteral,
     pub modifier: RootModifier,
 }
 
-// The root or the slash bass of a chord, where there is one.
-#[derive(Clone, Copy)]
-pub enum OptionalNote {
-    None,
-    Some(Note),
-}
+// C 0 to B 6.
+impl From<NoteLiteral> for u8 {
+    ghost from_gives = { λ letter number. number ≡ letter_number letter };
 
-impl NoteLiteral {
-    // C 0 to B 6.
-    pub fn number(self) -> u8
-        ensures { result ≡ letter_number self }
-    {
-        match self {
+    fn from(letter: NoteLiteral) -> u8 {
+        match letter {
             NoteLiteral::C => 0,
             NoteLiteral::D => 1,
             NoteLiteral::E => 2,
@@ -56,8 +49,10 @@ impl NoteLiteral {
             NoteLiteral::B => 6,
         }
     }
+}
 
-    // The letter of a number from 0 to 6; C for any other.
+impl NoteLiteral {
+    // The letter of a number from 0 to 6; C for any other, so that it is no TryFrom.
     pub fn from_number(number: u8) -> NoteLiteral
         ensures { result ≡ letter_of number }
     {
@@ -74,18 +69,20 @@ impl NoteLiteral {
     }
 }
 
-impl RootModifier {
-    // Flat -1, sharp 1.
-    pub fn alteration(self) -> i8
-        ensures { result ≡ alteration_of self }
-    {
-        match self {
+// The alteration: flat -1, sharp 1.
+impl From<RootModifier> for i8 {
+    ghost from_gives = { λ modifier alteration. alteration ≡ alteration_of modifier };
+
+    fn from(modifier: RootModifier) -> i8 {
+        match modifier {
             RootModifier::Natural => 0,
             RootModifier::Sharp => 1,
             RootModifier::Flat => -1,
         }
     }
+}
 
+impl RootModifier {
     fn number(self) -> u8
         ensures { result ≡ modifier_number self }
     {
@@ -108,16 +105,17 @@ impl RootModifier {
     }
 }
 
-impl Note {
-    // The note as a number below 21, and back.
-    pub fn number(self) -> u8
-        ensures { (result ≡ note_number self) × (note_of result ≡ self) × (result < 21) }
-    {
-        let l = self.literal;
-        let m = self.modifier;
-        3 * l.number() + m.number()
-    }
+// The note as a number below 21, from which it is found again.
+impl From<Note> for u8 {
+    ghost from_gives = { λ note number. (number ≡ note_number note) × (note_of number ≡ note) × (number < 21) };
 
+    fn from(note: Note) -> u8 {
+        3 * u8::from(note.literal) + note.modifier.number()
+    }
+}
+
+impl Note {
+    // The note of a number; each number from 21 on has one too, so that it is no TryFrom.
     pub fn from_number(number: u8) -> Note
         ensures { result ≡ note_of number }
     {
@@ -131,9 +129,7 @@ impl Note {
     pub fn pitch_class(self) -> u8
         ensures { (result ≡ pitch_class self) × (result < 12) }
     {
-        let l = self.literal;
-        let m = self.modifier;
-        (letter_class(l) + modifier_class(m)) % 12
+        (letter_class(self.literal) + modifier_class(self.modifier)) % 12
     }
 
     // The pitch class of the interval above the note as a root.

@@ -8,7 +8,7 @@ ghost use Rattle.std.specs.Prelude.{◌*◌, ◌≤◌, length};
 ghost use Rattle.io.specs.Counts.{IsPrefixLen};
 
 use lines::Input;
-use note::{Note, OptionalNote, RootModifier};
+use note::{Note, RootModifier};
 use std::io;
 use std::io::{Read, Write};
 
@@ -37,10 +37,10 @@ fn put_note(out: &mut [u8], used: usize, n: Note) -> usize {
     put_alteration(out, u, m)
 }
 
-fn put_root(out: &mut [u8], used: usize, root: OptionalNote) -> usize {
+fn put_root(out: &mut [u8], used: usize, root: Option<Note>) -> usize {
     match root {
-        OptionalNote::Some(n) => put_note(out, used, n),
-        OptionalNote::None => {
+        Some(n) => put_note(out, used, n),
+        None => {
             let u = put_alteration(out, used, RootModifier::Flat);
             put_number(out, u, 0)
         }

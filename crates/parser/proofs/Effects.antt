@@ -10,8 +10,8 @@ use lib.Signed.{mag}
 use mir.Facts.{to_z-of_z}
 use mir.Syntax.{w16}
 use mir.Val.{of_z, to_z}
-use Rattle.note.specs.declared.OptionalNote.TheVariants as optional
-use Rattle.note.specs.declared.OptionalNote.{OptionalNote}
+use Rattle.std.specs.declared.option.Option.TheVariants as optional
+use Rattle.note.specs.Note.{OptionalNote}
 use Rattle.note.specs.declared.RootModifier.TheVariants.{Sharp, Flat}
 use Rattle.expression.specs.ParserError.{all_numbers, numbers_of}
 use Rattle.expression.specs.State.{Wrote}

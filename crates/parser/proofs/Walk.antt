@@ -8,7 +8,7 @@ use native.Mathlib.Omega.{arith}
 use lib.Dec.{T as IsTrue}
 use lib.ListN.{length, drop, get_or}
 use lib.Seq.{drop-drop}
-use Rattle.note.specs.declared.OptionalNote.{OptionalNote}
+use Rattle.note.specs.Note.{OptionalNote}
 use Rattle.note.specs.declared.RootModifier.{RootModifier}
 use Rattle.lookahead.specs.Next.{note_from, sign_in}
 use Rattle.expression.proofs.Wrote.{later}

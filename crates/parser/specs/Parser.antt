@@ -1,8 +1,8 @@
 -- From tokens to expressions: the root, the expressions and the errors of a list of tokens, in one walk over it.
 use Rattle.std.specs.Prelude.{Bool, true, false, cond, List, [], ◌∷◌, ◌++◌, ℕ, zero, suc, eqb, ℤ, pos, drop}
 use Rattle.intervals.specs.Interval.{major_sixth}
-use Rattle.note.specs.declared.OptionalNote.TheVariants as optional
-use Rattle.note.specs.declared.OptionalNote.{OptionalNote}
+use Rattle.std.specs.declared.option.Option.TheVariants as optional
+use Rattle.note.specs.Note.{OptionalNote}
 use Rattle.expression.specs.Expression.{on_extension}
 use Rattle.expression.specs.declared.expression.Exp.{Exp}
 use Rattle.expression.specs.declared.parser_error.ParserError.TheVariants.{MissingRootNote}

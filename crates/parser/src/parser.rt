@@ -9,7 +9,7 @@ use crate::apply::{apply, push_error};
 use crate::state::{State, ahead_of, here_at, next_at};
 use expression::parser_error::ParserError;
 use lookahead::Next;
-use note::OptionalNote;
+use note::Note;
 use step::context::Context;
 use step::effect::{Effect, Gains, OptionalError};
 use step::step::process_inside;
@@ -18,7 +18,7 @@ use token::{Bracket, TokenType, bracket_kind};
 // How many errors and expressions there are, and the root.
 #[derive(Clone, Copy)]
 pub struct ParseResult {
-    pub root: OptionalNote,
+    pub root: Option<Note>,
     pub errors: usize,
     pub exps: usize,
 }
@@ -123,11 +123,11 @@ fn read_tokens(
 }
 
 // The effect of the first token, which is the root or should be.
-fn root_effect(root: OptionalNote, next: Next) -> Effect
+fn root_effect(root: Option<Note>, next: Next) -> Effect
     ensures { result ≡ root_effect root next }
 {
     match root {
-        OptionalNote::Some(_) => {
+        Some(_) => {
             let taken = if next.is_sign() { 1 } else { 0 };
             Effect {
                 taken,
@@ -137,7 +137,7 @@ fn root_effect(root: OptionalNote, next: Next) -> Effect
                 error: OptionalError::None,
             }
         }
-        OptionalNote::None => Effect {
+        None => Effect {
             taken: 0,
             count: 0,
             context: Context::None,
@@ -148,7 +148,7 @@ fn root_effect(root: OptionalNote, next: Next) -> Effect
 }
 
 // The state after the first token; that of any other is `apply`'s. Only kind 9 can be written.
-fn begin(root: OptionalNote, next: Next, errs: &mut [u16]) -> State
+fn begin(root: Option<Note>, next: Next, errs: &mut [u16]) -> State
     requires { 4 ≤ length errs.old }
     ensures { (xs : List ℕ) → EffectDone (root_effect root next) start result errs.old errs.new xs xs }
 {

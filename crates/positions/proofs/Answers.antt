@@ -17,8 +17,8 @@ use Rattle.expression.specs.declared.expression.Exp.{Exp}
 use Rattle.expression.specs.declared.parser_error.ParserError.TheVariants.{DuplicateModifier, InconsistentExtension, ThreeConsecutiveSemitones}
 use Rattle.expression.specs.declared.parser_error.ParserError.{ParserError}
 use Rattle.intervals.specs.Interval.{Set, empty}
-use Rattle.note.specs.declared.OptionalNote.TheVariants as optional
-use Rattle.note.specs.declared.OptionalNote.{OptionalNote}
+use Rattle.std.specs.declared.option.Option.TheVariants as optional
+use Rattle.note.specs.Note.{OptionalNote}
 use Rattle.parser.specs.Parser.{parse_of, root_of}
 use Rattle.reader.specs.Reader.{ReadOutcome, accepted, four_by, judge, parsed, validated}
 use Rattle.token.specs.Token.{Token}

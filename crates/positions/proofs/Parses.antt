@@ -11,8 +11,8 @@ use Rattle.expression.specs.declared.expression.Exp.{Exp}
 use Rattle.expression.specs.declared.parser_error.ParserError.{ParserError}
 use Rattle.lookahead.specs.Next.{next_of, note_from, sign_in}
 use Rattle.lookahead.specs.declared.Next.{Next}
-use Rattle.note.specs.declared.OptionalNote.TheVariants as optional
-use Rattle.note.specs.declared.OptionalNote.{OptionalNote}
+use Rattle.std.specs.declared.option.Option.TheVariants as optional
+use Rattle.note.specs.Note.{OptionalNote}
 use Rattle.parser.specs.Parser.{Parsing, ahead_of, applied, blank, effect_at, ends, error_of, gains_of, here_of, is_six, itself, last_six, next_at, opens, parse_of, root_effect, root_of, stack_turn, token_turn, walk}
 use Rattle.step.specs.declared.context.Context.{Context}
 use Rattle.step.specs.declared.effect.Effect.{Effect}

@@ -9,7 +9,7 @@ use native.Mathlib.Omega.{arith}
 use lib.ListN.{length, take, drop}
 use lib.Seq.{length-take-le}
 use Rattle.chord.specs.Chord.{four_of, no_chord, record_of}
-use Rattle.note.specs.declared.OptionalNote.{OptionalNote}
+use Rattle.note.specs.Note.{OptionalNote}
 use Rattle.expression.proofs.AllNumbers.{all-length}
 use Rattle.expression.specs.Expression.{exp_of}
 use Rattle.expression.specs.ParserError.{all_numbers}

@@ -1,7 +1,7 @@
 -- Reading a card: the five questions of document 01, in their order, and document 02's blank texts, over the definitions of the layers.
 use Rattle.std.specs.Prelude.{Bool, true, cond, ◌&&◌, List, [], ◌∷◌, ◌≡◌, ℕ, eqb, ltb, length}
 use Rattle.chord.specs.Chord.{Four, no_chord}
-use Rattle.note.specs.declared.OptionalNote.{OptionalNote}
+use Rattle.note.specs.Note.{OptionalNote}
 use Rattle.display.specs.Display.{display_of, first_sus}
 use Rattle.evaluator.specs.Evaluator.{eval_set, slash_bass}
 use Rattle.expression.specs.ParserError.{all_numbers}

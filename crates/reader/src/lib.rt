@@ -11,7 +11,7 @@ ghost use Rattle.reader.specs.Reader.{is_blank, parsed, tokens_in, validated};
 ghost use Rattle.reader.specs.State.{ReadGave, Read, Tokenized};
 
 use chord::Chord;
-use note::OptionalNote;
+use note::Note;
 
 // The answer to a card; 4 and 5 carry the count of errors.
 #[derive(Clone, Copy)]
@@ -42,7 +42,7 @@ fn no_chord(answer: Answer) -> Reading
 }
 
 // The chord of the expressions, if they and its set are valid.
-fn evaluate(root: OptionalNote, exps: &[u32], errs: &mut [u16]) -> Reading
+fn evaluate(root: Option<Note>, exps: &[u32], errs: &mut [u16]) -> Reading
     requires { Sounds exps.now × (length exps.now ≤ 257) × (1028 ≤ length errs.old) }
     ensures { ReadGave (validated root (map exp_of exps.now)) result errs.old errs.new }
 {

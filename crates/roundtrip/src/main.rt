@@ -7,7 +7,7 @@
 
 use chord::Chord;
 use intervals::{IntervalList, IntervalSet};
-use note::{Note, OptionalNote};
+use note::Note;
 use std::io;
 use std::io::Write;
 
@@ -29,11 +29,11 @@ fn more(n: u64) -> u64 {
 }
 
 // The note of a number below 21; none of 21.
-fn note_of(number: u8) -> OptionalNote {
+fn note_of(number: u8) -> Option<Note> {
     if number < 21 {
-        return OptionalNote::Some(Note::from_number(number));
+        return Some(Note::from_number(number));
     }
-    OptionalNote::None
+    None
 }
 
 // Is the text accepted, with the record's four?

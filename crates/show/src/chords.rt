@@ -4,7 +4,7 @@ ghost use Rattle.std.specs.Prelude.{◌<◌};
 use crate::print::{put, put_first, put_name, put_number, put_text};
 use chord::Chord;
 use intervals::IntervalSet;
-use note::{Note, NoteLiteral, OptionalNote, RootModifier};
+use note::{Note, NoteLiteral, RootModifier};
 use std::io;
 use std::io::Write;
 
@@ -44,10 +44,10 @@ fn put_note<W: Write>(to: &mut W, note: Note) -> io::Result<()> {
     put_modifier(to, m)
 }
 
-fn put_bass<W: Write>(to: &mut W, bass: OptionalNote) -> io::Result<()> {
+fn put_bass<W: Write>(to: &mut W, bass: Option<Note>) -> io::Result<()> {
     match bass {
-        OptionalNote::None => put(to, b"none"),
-        OptionalNote::Some(n) => put_note(to, n),
+        None => put(to, b"none"),
+        Some(n) => put_note(to, n),
     }
 }
 
@@ -98,10 +98,10 @@ fn with_set(classes: Classes, set: IntervalSet, root: Note) -> Classes {
     c
 }
 
-fn with_bass(classes: Classes, bass: OptionalNote) -> Classes {
+fn with_bass(classes: Classes, bass: Option<Note>) -> Classes {
     match bass {
-        OptionalNote::None => classes,
-        OptionalNote::Some(n) => with_class(classes, n.pitch_class()),
+        None => classes,
+        Some(n) => with_class(classes, n.pitch_class()),
     }
 }
 
@@ -120,7 +120,7 @@ fn put_classes<W: Write>(to: &mut W, classes: Classes) -> io::Result<()> {
 fn put_sound<W: Write>(
     to: &mut W,
     root: Note,
-    bass: OptionalNote,
+    bass: Option<Note>,
     set: IntervalSet,
 ) -> io::Result<()> {
     let none = Classes { sound: [false; 12] };
@@ -150,7 +150,7 @@ fn put_rooted<W: Write>(to: &mut W, text: &[u8], root: Note, chord: Chord) -> io
 pub(crate) fn put_chord<W: Write>(to: &mut W, text: &[u8], chord: Chord) -> io::Result<()> {
     let root = chord.root;
     match root {
-        OptionalNote::None => put(to, b"no chord: the reeds stop\n"),
-        OptionalNote::Some(n) => put_rooted(to, text, n, chord),
+        None => put(to, b"no chord: the reeds stop\n"),
+        Some(n) => put_rooted(to, text, n, chord),
     }
 }

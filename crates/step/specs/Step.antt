@@ -3,8 +3,8 @@ use Rattle.std.specs.Prelude.{Bool, cond, ◌&&◌, ◌||◌, ℕ, ◌+◌, eqb,
 use Rattle.std.specs.Int.Signed.{lt_z}
 use Rattle.intervals.specs.Interval.{augmented_fourth, diminished_fifth, major_second, major_seventh, major_third, minor_second, ninth, perfect_fifth, perfect_fourth}
 use Rattle.note.specs.declared.Note.{Note}
-use Rattle.note.specs.declared.OptionalNote.TheVariants as optional
-use Rattle.note.specs.declared.OptionalNote.{OptionalNote}
+use Rattle.std.specs.declared.option.Option.TheVariants as optional
+use Rattle.note.specs.Note.{OptionalNote}
 use Rattle.note.specs.declared.RootModifier.TheVariants.{Natural, Sharp, Flat}
 use Rattle.note.specs.declared.RootModifier.{RootModifier}
 use Rattle.expression.specs.declared.expression.Exp.TheVariants.{Power, Bass, Maj, Maj7, Minor, HalfDim, Dim, Dim7, Alt, Aug, Sus, Extension, Add, Omit, SlashBass}

@@ -16,7 +16,7 @@ use intervals::{
     NINTH, PERFECT_FIFTH, PERFECT_FOURTH,
 };
 use lookahead::{Ahead, Next};
-use note::{Note, OptionalNote, RootModifier};
+use note::{Note, RootModifier};
 use token::{Bracket, TokenType};
 
 fn is_inside(h: Here) -> bool
@@ -260,8 +260,8 @@ fn slash(h: Here, a: Ahead) -> Effect
         return last(h, second, Exp::Add(NINTH, a.pos), 1);
     }
     match first.note(second.sign()) {
-        OptionalNote::Some(note) => bass(note, h, a),
-        OptionalNote::None => fail(h, ParserError::IllegalSlashNotation(h.pos), 1),
+        Some(note) => bass(note, h, a),
+        None => fail(h, ParserError::IllegalSlashNotation(h.pos), 1),
     }
 }
 

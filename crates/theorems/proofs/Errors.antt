@@ -12,8 +12,8 @@ use Rattle.lookahead.specs.Next.{is_end, is_maj7, is_number, is_sign, note_from,
 use Rattle.lookahead.specs.declared.Ahead.{Ahead}
 use Rattle.lookahead.specs.declared.Next.{Next}
 use Rattle.intervals.specs.Interval.{elem, Set, empty, semitones}
-use Rattle.note.specs.declared.OptionalNote.TheVariants as optional
-use Rattle.note.specs.declared.OptionalNote.{OptionalNote}
+use Rattle.std.specs.declared.option.Option.TheVariants as optional
+use Rattle.note.specs.Note.{OptionalNote}
 use Rattle.note.specs.declared.RootModifier.TheVariants.{Natural, Sharp, Flat}
 use Rattle.note.specs.declared.RootModifier.{RootModifier}
 use Rattle.expression.specs.ParserError.{all_numbers, row_of}

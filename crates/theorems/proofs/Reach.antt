@@ -17,8 +17,8 @@ use Rattle.midi.proofs.Words.{between-length}
 use Rattle.midi.specs.Midi.{between, messages}
 use Rattle.note.specs.Note.{pitch_class}
 use Rattle.note.specs.declared.Note.{Note}
-use Rattle.note.specs.declared.OptionalNote.TheVariants.{None, Some}
-use Rattle.note.specs.declared.OptionalNote.{OptionalNote}
+use Rattle.std.specs.declared.option.Option.TheVariants.{None, Some}
+use Rattle.note.specs.Note.{OptionalNote}
 
 -- ---- messages
 

@@ -13,7 +13,7 @@ use lib.ListN.{drop, get_or, length}
 use borrow.Author.Tests.{ltb-false, ltb-true}
 use Rattle.chord.specs.Chord.{Four, four_of, no_chord, record_of}
 use Rattle.note.specs.declared.Note.{Note}
-use Rattle.note.specs.declared.OptionalNote.TheVariants.{None, Some}
+use Rattle.std.specs.declared.option.Option.TheVariants.{None, Some}
 use Rattle.house_parts.specs.House.{is_some}
 use Rattle.house_text.proofs.Realized.{blank-accepted, empty-accepted}
 use Rattle.house_text.specs.Spelling.{house}

@@ -4,7 +4,7 @@
 use Rattle.std.specs.Prelude.{true, false, List, [], ◌++◌, ◌↔◌, ◌⊎◌, ◌≡◌, ℕ, ◌*◌, ◌≤◌, ◌<◌, drop, get_or, length}
 use Rattle.chord.specs.Chord.{Four, four_of, no_chord, record_of}
 use Rattle.note.specs.declared.Note.{Note}
-use Rattle.note.specs.declared.OptionalNote.TheVariants.{Some}
+use Rattle.std.specs.declared.option.Option.TheVariants.{Some}
 use Rattle.evaluator.specs.Evaluator.{eval_set}
 use Rattle.expression.specs.declared.parser_error.ParserError.{ParserError}
 use Rattle.parser.specs.Parser.{parse_of}

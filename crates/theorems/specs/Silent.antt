@@ -4,7 +4,7 @@ use Rattle.std.specs.Prelude.{true, List, [], ◌∷◌, ◌↔◌, ◌≡◌, �
 use Rattle.std.proofs.Math.Option.{some}
 use Rattle.chord.specs.Chord.{Four, four_of, no_chord, record_of}
 use Rattle.chord.specs.declared.Chord.{Chord}
-use Rattle.note.specs.declared.OptionalNote.TheVariants.{None}
+use Rattle.std.specs.declared.option.Option.TheVariants.{None}
 use Rattle.house_text.specs.Spelling.{house}
 use Rattle.nophtris.specs.Boundary.{four_in}
 use Rattle.nophtris.specs.State as C

@@ -5,8 +5,8 @@ use Rattle.std.specs.Prelude.{cond, List, [], ◌∷◌, ◌++◌, map, ◌≡�
 use Rattle.intervals.specs.Interval.{Set, empty}
 use Rattle.midi.specs.Midi.{NextOutcome, next_of, ons}
 use Rattle.note.specs.Note.{note_number}
-use Rattle.note.specs.declared.OptionalNote.TheVariants.{None, Some}
-use Rattle.note.specs.declared.OptionalNote.{OptionalNote}
+use Rattle.std.specs.declared.option.Option.TheVariants.{None, Some}
+use Rattle.note.specs.Note.{OptionalNote}
 use Rattle.lexer.specs.Text.{ascii}
 use Rattle.house_text.specs.Spelling.{house}
 use Rattle.reader.specs.Reader.{ReadOutcome, answer_to}

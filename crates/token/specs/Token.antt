@@ -1,17 +1,13 @@
--- Tokens, their types, the numbers of these and what each is to a bracket, and the list of tokens that three parallel arrays hold.
+-- Tokens, their types, the numbers of these and what each is to a bracket.
 use Rattle.std.specs.Prelude.{cond, List, [], ◌∷◌, ◌≡◌, ℕ, ◌+◌, ◌-◌, ◌≤◌, ltb, length, get_or, drop}
 use Rattle.note.specs.Note.{letter_number, letter_of}
 use Rattle.token.specs.declared.Bracket.TheVariants.{Opens, Closes, Ends, Other}
 use Rattle.token.specs.declared.Bracket.{Bracket}
 use Rattle.token.specs.declared.TokenType.TheVariants.{Note, Sharp, Flat, Aug, Dim, Dim7, HalfDim, Extension, Add, Omit, Alt, Sus, Minor, Hyphen, Maj, Maj7, Slash, LParent, RParent, Comma, Bass, Illegal, Eof}
 use Rattle.token.specs.declared.TokenType.{TokenType}
+pub use Rattle.token.specs.declared.Token.{Token}
 
 -- "A token holds numbers, no borrowed text": the number of its type, its position and its length.
-pub record Token : Type 0 where
-  pub kind : ℕ
-  pub pos : ℕ
-  pub len : ℕ
-
 abbrev pub token : ℕ → ℕ → ℕ → Token
 token k p l = record { kind = k; pos = p; len = l }
 
@@ -83,24 +79,13 @@ bracket_kind Bass = Other
 bracket_kind Illegal = Other
 bracket_kind Eof = Ends
 
--- the arrays' tokens, row by row, as far as the shortest goes
-unfoldable pub rows : List ℕ → List ℕ → List ℕ → List Token
-rows [] ps ls = []
-rows (k ∷ ks) [] ls = []
-rows (k ∷ ks) (p ∷ ps) [] = []
-rows (k ∷ ks) (p ∷ ps) (l ∷ ls) = token k p l ∷ rows ks ps ls
+-- the slice has room for n tokens
+abbrev pub Room : ℕ → List Token → Type 0
+Room n ts = n ≤ length ts
 
--- the arrays have one length, and room for n tokens
-pub record Room (n : ℕ) (ks ps ls : List ℕ) : Type 0 where
-  pub kinds : n ≤ length ks
-  pub poss : length ps ≡ length ks
-  pub lens : length ls ≡ length ks
-
--- from place n on each of the three arrays is as it was
-pub record Untouched (n : ℕ) (ks ps ls ks' ps' ls' : List ℕ) : Type 0 where
-  pub kinds : drop n ks' ≡ drop n ks
-  pub poss : drop n ps' ≡ drop n ps
-  pub lens : drop n ls' ≡ drop n ls
+-- from place n on the slice is as it was
+abbrev pub Untouched : ℕ → List Token → List Token → Type 0
+Untouched n ts ts' = drop n ts' ≡ drop n ts
 
 abbrev pub at : List Token → ℕ → Token
 at ts i = get_or ts i (token 0 0 0)

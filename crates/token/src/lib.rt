@@ -1,12 +1,12 @@
-// Tokens: their types, what each is to a bracket, and lists of them in three lent arrays of numbers.
+// Tokens: their types, and what each is to a bracket.
 #![tactic(auto)]
 
-ghost use Rattle.std.specs.Prelude.{◌≡◌, ◌+◌, ◌<◌, set};
-ghost use Rattle.token.specs.Token.{bracket_kind, token as token_of, type_of, plain_type, rows, Room, at as token_at};
+ghost use Rattle.std.specs.Prelude.{◌≡◌, ◌<◌};
+ghost use Rattle.token.specs.Token.{bracket_kind, type_of, plain_type};
 
 use note::NoteLiteral;
 
-#[derive(Clone, Copy)]
+#[derive(Clone, Copy, PartialEq, Eq)]
 pub enum TokenType {
     Note(NoteLiteral),
     Sharp,
@@ -33,8 +33,16 @@ pub enum TokenType {
     Eof,
 }
 
+// A token of a text: the number of its type, its position and its length.
+#[derive(Clone, Copy, PartialEq, Eq)]
+pub struct Token {
+    pub kind: u8,
+    pub pos: u16,
+    pub len: u16,
+}
+
 // What a token can be to the bracket around it.
-#[derive(Clone, Copy)]
+#[derive(Clone, Copy, PartialEq, Eq)]
 pub enum Bracket {
     Opens,
     Closes,
@@ -136,35 +144,4 @@ pub fn bracket_kind(kind: TokenType) -> Bracket
         TokenType::Eof => Bracket::Ends,
         _ => Bracket::Other,
     }
-}
-
-// Puts a token at a place.
-pub fn put(
-    kinds: &mut [u8],
-    poss: &mut [u16],
-    lens: &mut [u16],
-    at: usize,
-    kind: u8,
-    pos: u16,
-    len: u16,
-)
-    requires { Room (at + 1) kinds.old poss.old lens.old }
-    ensures { rows kinds.new poss.new lens.new ≡ set
-        (rows kinds.old poss.old lens.old) at (token_of kind pos len) }
-{
-    kinds[at] = kind;
-    poss[at] = pos;
-    lens[at] = len;
-}
-
-// Puts the token of place `from` at place `to` too.
-pub fn copy(kinds: &mut [u8], poss: &mut [u16], lens: &mut [u16], to: usize, from: usize)
-    requires { Room (to + 1) kinds.old poss.old lens.old × Room (from + 1) kinds.old poss.old lens.old }
-    ensures { let R = rows kinds.old poss.old lens.old in rows kinds.new poss.new
-        lens.new ≡ set R to (token_at R from) }
-{
-    let kind = kinds[from];
-    let pos = poss[from];
-    let len = lens[from];
-    put(kinds, poss, lens, to, kind, pos, len);
 }

@@ -12,8 +12,8 @@ use borrow.Author.Tests.{lt-ltb, le-ltb, ltb-false, ltb-true}
 use Rattle.intervals.proofs.Whole.{members_narrow}
 use Rattle.chord.specs.Chord.{Four, four_of}
 use Rattle.chord.specs.declared.Chord.{Chord}
-use Rattle.note.specs.declared.OptionalNote.TheVariants.{None, Some}
-use Rattle.note.specs.declared.OptionalNote.{OptionalNote}
+use Rattle.std.specs.declared.option.Option.TheVariants.{None, Some}
+use Rattle.note.specs.Note.{OptionalNote}
 use Rattle.house_parts.proofs.Tests.{same_answer}
 use Rattle.house_parts.specs.House.{kind_in}
 use Rattle.house_parts.specs.Question.{realizable}

@@ -11,8 +11,8 @@ use lib.ListN.{length, get_or, take, replicate, length-append}
 use lib.Seq.{get_or-take, length-take-le, take-suc}
 use Rattle.intervals.specs.Interval.{Set}
 use Rattle.note.specs.declared.Note.{Note}
-use Rattle.note.specs.declared.OptionalNote.TheVariants.{None}
-use Rattle.note.specs.declared.OptionalNote.{OptionalNote}
+use Rattle.std.specs.declared.option.Option.TheVariants.{None}
+use Rattle.note.specs.Note.{OptionalNote}
 use Rattle.expression.specs.declared.expression.Exp.TheVariants.{Dim7, SlashBass}
 use Rattle.house_parts.specs.House.{Part, part, condition, condition_at, is_some, note_or_c, parts}
 use Rattle.house_parts.specs.declared.kind.SusKind.TheVariants.{Plain}

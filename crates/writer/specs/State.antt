@@ -3,8 +3,8 @@ use Rattle.std.specs.Prelude.{cond, List, [], ◌++◌, map, ◌≡◌, ℕ, ◌
 use Rattle.chord.specs.Chord.{four_of}
 use Rattle.intervals.specs.Interval.{Set}
 use Rattle.chord.specs.declared.Chord.{Chord}
-use Rattle.note.specs.declared.OptionalNote.TheVariants.{None}
-use Rattle.note.specs.declared.OptionalNote.{OptionalNote}
+use Rattle.std.specs.declared.option.Option.TheVariants.{None}
+use Rattle.note.specs.Note.{OptionalNote}
 use Rattle.house_parts.specs.House.{condition_at, is_some, note_or_c, parts}
 use Rattle.house_parts.specs.declared.kind.SusKind.{SusKind}
 use Rattle.lexer.specs.Text.{ascii}

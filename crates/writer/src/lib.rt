@@ -10,7 +10,7 @@ ghost use Rattle.writer.specs.Writer.{HasText};
 use chord::Chord;
 use house_parts::kind::kind_in;
 use house_parts::question::is_realizable;
-use note::OptionalNote;
+use note::Note;
 use spelling::put_spelling;
 
 mod spelling;
@@ -40,8 +40,8 @@ fn spell(chord: Chord, buffer: &mut [u8]) -> usize
     let set = chord.normalized;
     let list = chord.display;
     match root {
-        OptionalNote::None => 0,
-        OptionalNote::Some(note) => put_spelling(buffer, note, bass, set, kind_in(set, list)),
+        None => 0,
+        Some(note) => put_spelling(buffer, note, bass, set, kind_in(set, list)),
     }
 }
 

@@ -7,7 +7,7 @@ ghost use Rattle.writer.specs.State.{Put, Tables, text_at, part_text, written23,
 use house_parts::kind::SusKind;
 use house_parts::parts::is_named;
 use intervals::IntervalSet;
-use note::{Note, NoteLiteral, OptionalNote, RootModifier};
+use note::{Note, NoteLiteral, RootModifier};
 
 // The texts of the parts but for the bass, as rows of eight bytes, and their lengths.
 pub const TEXTS: [[u8; 8]; 23] = [
@@ -150,13 +150,13 @@ fn put_parts(
 }
 
 // A slash and the bass, if there is one.
-fn put_bass(buffer: &mut [u8], n: usize, bass: OptionalNote) -> usize
+fn put_bass(buffer: &mut [u8], n: usize, bass: Option<Note>) -> usize
     requires { n + length (bass_text bass) ≤ length buffer.old }
     ensures { Put n result (bass_text bass) buffer.old buffer.new }
 {
     match bass {
-        OptionalNote::None => n,
-        OptionalNote::Some(note) => {
+        None => n,
+        Some(note) => {
             let m = put(buffer, n, b'/');
             put_note(buffer, m, note)
         }
@@ -167,7 +167,7 @@ fn put_bass(buffer: &mut [u8], n: usize, bass: OptionalNote) -> usize
 pub(crate) fn put_spelling(
     buffer: &mut [u8],
     root: Note,
-    bass: OptionalNote,
+    bass: Option<Note>,
     set: IntervalSet,
     k: SusKind,
 ) -> usize

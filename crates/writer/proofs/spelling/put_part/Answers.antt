@@ -4,7 +4,7 @@ use mathlib.Core.Path.{sym, ap, ◌∙◌}
 use native.Mathlib.Omega.{arith}
 use lib.ListN.{length}
 use Rattle.intervals.specs.Stored.{members}
-use Rattle.note.specs.declared.OptionalNote.TheVariants.{None}
+use Rattle.std.specs.declared.option.Option.TheVariants.{None}
 use Rattle.writer.proofs.Parts.{part-named, part_unnamed}
 use Rattle.writer.proofs.Puts.{put-none, put_as}
 use Rattle.writer.proofs.spelling.put_part.Goals as goal
