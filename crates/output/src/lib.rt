@@ -1,7 +1,7 @@
 // Output in a lent buffer. What a writer of the system does with the bytes cannot be said; all else is.
 #![tactic(auto)]
 
-ghost use Rattle.std.specs.Prelude.{cond, [], ◌∷◌, ◌≡◌, ◌-◌, ◌<◌, ◌≤◌, ltb, length, replicate, take, IfOk, OnErr, OnOk, tt};
+ghost use Rattle.std.specs.Prelude.{cond, [], ◌∷◌, ◌≡◌, ◌-◌, ◌<◌, ◌≤◌, ltb, length, replicate, take, IfOk, OnErr, OnOk};
 ghost use Rattle.std.specs.Io.KnownBytes.{Appends};
 ghost use Rattle.output.specs.Output.{AppendsPart, Put, PutNumber};
 
