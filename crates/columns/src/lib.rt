@@ -1,0 +1,63 @@
+// What the listings print: numbers, each right-justified in four columns, one behind another.
+#![tactic(auto)]
+
+ghost use Rattle.output.specs.Output.{PutNumber};
+ghost use Rattle.columns.specs.Columns.{PutAll, PutAlteration, PutErrors, PutNote, PutNoteOrNone};
+
+use note::{Note, OptionalNote, RootModifier};
+use output::Output;
+
+// Appends a number.
+pub fn put(out: &mut Output, n: u64)
+    ensures { PutNumber n 4 out.old.used out.new.used out.old.buffer.now out.new.buffer.now }
+{
+    out.put_number(n, 4);
+}
+
+// Appends -1, 0 or 1.
+fn put_alteration(out: &mut Output, modifier: RootModifier)
+    ensures { PutAlteration modifier out.old.used out.new.used out.old.buffer.now out.new.buffer.now }
+{
+    match modifier {
+        RootModifier::Flat => out.put_bytes(b"  -1"),
+        RootModifier::Natural => put(out, 0),
+        RootModifier::Sharp => put(out, 1),
+    }
+}
+
+// Appends a note's letter and alteration.
+pub fn put_note(out: &mut Output, note: Note)
+    ensures { PutNote note out.old.used out.new.used out.old.buffer.now out.new.buffer.now }
+{
+    put(out, note.literal.number() as u64);
+    put_alteration(out, note.modifier);
+}
+
+// Appends a note, or -1 and 0 where there is none.
+pub fn put_note_or_none(out: &mut Output, note: OptionalNote)
+    ensures { PutNoteOrNone note out.old.used out.new.used out.old.buffer.now out.new.buffer.now }
+{
+    match note {
+        OptionalNote::Some(note) => put_note(out, note),
+        OptionalNote::None => {
+            put_alteration(out, RootModifier::Flat);
+            put(out, 0);
+        }
+    }
+}
+
+// Appends the count of the errors, and their numbers, four for each.
+pub fn put_errors(out: &mut Output, errors: &[u16])
+    ensures { PutErrors errors.now out.old.used out.new.used out.old.buffer.now out.new.buffer.now }
+{
+    put(out, (errors.len() / 4) as u64);
+    put_all(out, errors);
+}
+
+fn put_all(out: &mut Output, numbers: &[u16])
+    ensures { PutAll numbers.now out.old.used out.new.used out.old.buffer.now out.new.buffer.now }
+{
+    for number in numbers {
+        put(out, *number as u64);
+    }
+}
