@@ -5,8 +5,8 @@ use note::OptionalNote;
 use output::Output;
 use reader::Reading;
 
-// Half of the output's buffer: where so much waits it is written before the next answer. The longest, 257 errors, is below 8,000 bytes.
-pub(crate) const HALF: usize = 32768;
+// The length of a buffer that has room for each spelling.
+const LONGEST_SPELLING: usize = 112;
 
 // What has a number in the protocol.
 pub(crate) trait Numbered {
@@ -140,7 +140,7 @@ pub(crate) fn accepted(reading: Reading) -> Result<Chord, reader::Answer> {
 
 // Appends the spelling of a record.
 fn put_spelled(out: &mut Output, chord: Chord) {
-    let mut buffer = [0u8; 112];
+    let mut buffer = [0u8; LONGEST_SPELLING];
     match writer::write(chord, &mut buffer) {
         writer::Answer::Spelled(n) => out.put_first(&buffer, n),
         refusal => put_answer(out, &refusal),
@@ -159,7 +159,7 @@ pub(crate) fn put_spelling(out: &mut Output, reading: Reading) {
 pub(crate) fn put_written(out: &mut Output, record: Option<Chord>, buffer: &mut [u8]) {
     let answer = match record {
         Some(chord) => writer::write(chord, buffer),
-        None if buffer.len() < 112 => writer::Answer::ShortBuffer,
+        None if buffer.len() < LONGEST_SPELLING => writer::Answer::ShortBuffer,
         None => writer::Answer::NoText,
     };
     put_answer(out, &answer);

@@ -9,7 +9,7 @@ pub(crate) enum Fault {
 }
 
 impl Fault {
-    // What is answered.
+    // The answer.
     pub(crate) fn text(self) -> &'static str {
         match self {
             Fault::NoQuestion => "? the first word is no question",

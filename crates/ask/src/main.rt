@@ -15,16 +15,17 @@ mod record;
 mod sounding;
 mod steps;
 
-use answer::{HALF, put_reading, put_spelling, put_written};
+use answer::{put_reading, put_spelling, put_written};
 use bar::put_numbered;
 use chord::Chord;
 use fault::Fault;
 use keys::Keys;
+use lines::Lines;
 use number::Words;
 use output::Output;
 use sounding::put_change;
 use std::io;
-use std::io::{Read, Write};
+use std::io::Write;
 use steps::{put_song, put_step};
 
 // A LIST above this counts as this.
@@ -234,7 +235,6 @@ fn answer_line<W: Write>(
     keys: &mut Keys,
     line: &[u8],
 ) -> io::Result<()> {
-    out.room(to, HALF)?;
     match parse(line) {
         Ok(question) => answer_question(to, out, keys, question)?,
         Err(fault) => out.put_bytes(fault.text().as_bytes()),
@@ -244,11 +244,14 @@ fn answer_line<W: Write>(
 }
 
 fn main(rt: HostRuntime) -> io::Result<()> {
-    let mut buffer = [0u8; 65536];
+    let mut waiting = [0u8; 65536];
     let mut line = [0u8; 16385];
-    let mut out = Output::new(&mut buffer);
+    let mut block = [0u8; 65536];
     let mut keys = Keys::new();
-    let n = rt.stdin().read(&mut line)?;
-    answer_line(&mut rt.stdout(), &mut out, &mut keys, &line[..n])?;
-    out.flush(&mut rt.stdout())
+    Lines::new(&mut block, &mut line).answer_all(
+        &mut rt.stdin(),
+        &mut rt.stdout(),
+        &mut Output::new(&mut waiting),
+        |to, out, _, line| answer_line(to, out, &mut keys, line),
+    )
 }

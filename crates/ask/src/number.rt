@@ -69,7 +69,7 @@ impl<'a> Words<'a> {
         }
     }
 
-    // Takes the next number, or -1, which is none.
+    // Takes the next number, or -1, for which None stands.
     pub(crate) fn signed(&mut self) -> Result<Option<u64>, Fault> {
         match self.next() {
             b"-1" => Ok(None),

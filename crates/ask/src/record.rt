@@ -24,7 +24,7 @@ fn with_shown(mut list: IntervalList, n: u64) -> Option<IntervalList> {
     Some(list)
 }
 
-// The modifier of an alteration, of which -1 is none.
+// The modifier of an alteration, where None is -1.
 fn modifier(alteration: Option<u64>) -> Option<RootModifier> {
     match alteration {
         None => Some(RootModifier::Flat),
@@ -34,7 +34,7 @@ fn modifier(alteration: Option<u64>) -> Option<RootModifier> {
     }
 }
 
-// The note of a letter and an alteration, of which -1 is none: -1 and 0 are no note. Other numbers are nothing.
+// The note of a letter and an alteration, where None is -1; -1 and 0 say that there is no note. Other numbers say nothing.
 fn note(letter: Option<u64>, alteration: Option<u64>) -> Option<OptionalNote> {
     match (letter, modifier(alteration)?) {
         (None, RootModifier::Natural) => Some(OptionalNote::None),
@@ -68,14 +68,14 @@ fn chord_in(text: &[u8]) -> Option<Chord> {
 }
 
 impl<'a> Words<'a> {
-    // Takes the two numbers of a note. Those that are no such are none; so below.
+    // Takes the two numbers of a note; None where they say nothing.
     fn note(&mut self) -> Result<Option<OptionalNote>, Fault> {
         let letter = self.signed()?;
         let alteration = self.signed()?;
         Ok(note(letter, alteration))
     }
 
-    // Takes a count, and puts so many numbers to a value, as long as it can have one more.
+    // Takes a count and so many numbers, which a value grows by; None where one of them cannot be added to it.
     fn counted<T: Copy, F: Fn(T, u64) -> Option<T>>(
         &mut self,
         empty: T,
@@ -91,7 +91,7 @@ impl<'a> Words<'a> {
         Ok(value)
     }
 
-    // Takes the numbers of a record, with which the line ends.
+    // Takes the numbers of a record, with which the line ends; None where a part of them is none.
     fn chord(mut self) -> Result<Option<Chord>, Fault> {
         let root = self.note()?;
         let bass = self.note()?;
@@ -101,7 +101,7 @@ impl<'a> Words<'a> {
         Ok(chord_of(root, bass, normalized, display))
     }
 
-    // Takes the record that ends the line. Numbers that are none, and a text that is refused, have none.
+    // Takes the record that ends the line; None where its numbers are none, or its text is refused.
     pub(crate) fn record(self) -> Result<Option<Chord>, Fault> {
         match self.text() {
             Some(text) => Ok(chord_in(text)),

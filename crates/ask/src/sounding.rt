@@ -5,7 +5,7 @@ use keys::Keys;
 use midi::Answer;
 use output::Output;
 
-// The hexadecimal digits.
+// The hexadecimal digits, in capitals, which `io::hex` does not write.
 const DIGITS: [u8; 16] = *b"0123456789ABCDEF";
 
 // Appends a byte of a message behind a space.

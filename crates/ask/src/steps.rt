@@ -1,12 +1,15 @@
 // The steps of a song line: the new position, and what the step said.
 ghost use Rattle.std.specs.Prelude.{◌≤◌};
 
-use crate::answer::{HALF, put_next, put_reading};
+use crate::answer::{put_next, put_reading};
 use output::Output;
 use reader::Reading;
 use song::{Answer, Step};
 use std::io;
 use std::io::Write;
+
+// Half of the output's buffer: where so much waits it is written before the next answer. The longest, 257 errors, is below 8,000 bytes.
+const HALF: usize = 32768;
 
 // A line has 4,097 bars at most, and the step behind the last says end.
 const MOST_STEPS: usize = 4098;
