@@ -1,198 +1,171 @@
-// The answers: numbers with one space between, and spellings.
-ghost use Rattle.std.specs.Prelude.{◌≤◌, ◌<◌};
-
-use crate::record::Record;
+// The answers: numbers with one space between, and spellings. Each begins with its number: 0, or that of a refusal.
 use chord::Chord;
 use intervals::{IntervalList, IntervalSet};
-use note::Note;
+use note::OptionalNote;
+use output::Output;
 use reader::Reading;
 
-// Half of the output's buffer: where so much waits it is written before the next answer. The longest, 257 errors, is below 8,000 bytes.
-pub(crate) const HALF: usize = 32768;
+// The length of a buffer that has room for each spelling.
+const LONGEST_SPELLING: usize = 112;
 
-// Appends a number behind a space.
-pub(crate) fn put_next(out: &mut [u8], used: usize, n: u64) -> usize {
-    let u = output::put(out, used, b' ');
-    output::put_number(out, u, n, 0)
+// What has a number in the protocol.
+pub(crate) trait Numbered {
+    fn number(&self) -> u64;
 }
 
-// Appends a note's letter and alteration, or -1 and 0 where there is none.
-fn put_note(out: &mut [u8], used: usize, note: Option<Note>) -> usize {
-    match note {
-        None => output::put_bytes(out, used, b" -1 0"),
-        Some(n) => {
-            let l = n.literal;
-            let m = n.modifier;
-            let u = put_next(out, used, l.number() as u64);
-            put_alteration(out, u, m.alteration())
+impl Numbered for reader::Answer {
+    fn number(&self) -> u64 {
+        match self {
+            reader::Answer::Accepted => 0,
+            reader::Answer::ShortList => 1,
+            reader::Answer::LongText => 2,
+            reader::Answer::NotUtf8 => 3,
+            reader::Answer::Parse(_) => 4,
+            reader::Answer::Validation(_) => 5,
         }
     }
 }
 
-fn put_alteration(out: &mut [u8], used: usize, a: i8) -> usize {
-    if a < 0 {
-        return output::put_bytes(out, used, b" -1");
+impl Numbered for writer::Answer {
+    fn number(&self) -> u64 {
+        match self {
+            writer::Answer::Spelled(_) => 0,
+            writer::Answer::ShortBuffer => 6,
+            writer::Answer::NoText => 7,
+        }
     }
-    if 0 < a {
-        return output::put_bytes(out, used, b" 1");
-    }
-    output::put_bytes(out, used, b" 0")
 }
 
-fn one(yes: bool) -> u64
-    ensures { result ≤ 1 }
-{
-    if yes {
-        return 1;
+impl Numbered for endings::Answer {
+    fn number(&self) -> u64 {
+        match self {
+            endings::Answer::Body | endings::Answer::Ending => 0,
+            endings::Answer::TooLong => 8,
+            endings::Answer::NoBar => 9,
+        }
     }
-    0
 }
 
-// The count of the members of a set.
-fn count(set: IntervalSet) -> u64 {
-    let mut n = 0;
-    let mut i = 0;
-    while i < 23 {
-        n += one(set.contains(i));
-        i += 1;
+impl Numbered for midi::Answer {
+    fn number(&self) -> u64 {
+        match self {
+            midi::Answer::Sent(_) => 0,
+            midi::Answer::NoText => 7,
+            midi::Answer::OutsideKeys => 10,
+            midi::Answer::ShortOutput => 11,
+        }
     }
-    n
 }
 
-// Appends an interval if it is a member.
-fn put_member(out: &mut [u8], used: usize, set: IntervalSet, i: u8) -> usize
-    requires { i < 23 }
-{
-    if set.contains(i) {
-        return put_next(out, used, i as u64);
+// Appends the number of an answer.
+pub(crate) fn put_answer<A: Numbered>(out: &mut Output, answer: &A) {
+    out.put_number(answer.number(), 0);
+}
+
+// Appends a number behind a space.
+pub(crate) fn put_next(out: &mut Output, n: u64) {
+    out.put(b' ');
+    out.put_number(n, 0);
+}
+
+// Appends a note's letter and alteration, or -1 and 0 where there is none.
+fn put_note(out: &mut Output, note: OptionalNote) {
+    match note {
+        OptionalNote::None => out.put_bytes(b" -1 0"),
+        OptionalNote::Some(n) => {
+            put_next(out, u64::from(n.literal.number()));
+            put_alteration(out, n.modifier.alteration());
+        }
     }
-    used
 }
 
-fn put_set(out: &mut [u8], used: usize, set: IntervalSet) -> usize {
-    let mut u = put_next(out, used, count(set));
-    let mut i = 0;
-    while i < 23 {
-        u = put_member(out, u, set, i);
-        i += 1;
+fn put_alteration(out: &mut Output, alteration: i8) {
+    out.put_bytes(match alteration {
+        ..0 => b" -1".as_slice(),
+        0 => b" 0",
+        _ => b" 1",
+    });
+}
+
+// Appends the count of the members of a set, and the members.
+fn put_set(out: &mut Output, set: IntervalSet) {
+    put_next(out, (0..23).filter(|i| set.contains(*i)).count() as u64);
+    for i in (0..23).filter(|i| set.contains(*i)) {
+        put_next(out, u64::from(i));
     }
-    u
 }
 
-fn put_byte(out: &mut [u8], used: usize, n: u8) -> usize {
-    put_next(out, used, n as u64)
-}
-
-fn put_list(out: &mut [u8], used: usize, list: IntervalList) -> usize {
+// Appends the count of the numbers of a list, and the numbers.
+fn put_list(out: &mut Output, list: IntervalList) {
     let n = list.count();
-    let mut u = put_next(out, used, n as u64);
-    let mut i = 0;
-    while i < n {
-        u = put_byte(out, u, list.numbers[i]);
-        i += 1;
+    put_next(out, n as u64);
+    for number in &list.numbers[..n] {
+        put_next(out, u64::from(*number));
     }
-    u
 }
 
-// Appends 0 and a record.
-fn put_record(out: &mut [u8], used: usize, chord: Chord) -> usize {
-    let root = chord.root;
-    let bass = chord.bass;
-    let set = chord.normalized;
-    let list = chord.display;
-    let a = output::put(out, used, b'0');
-    let b = put_note(out, a, root);
-    let c = put_note(out, b, bass);
-    let d = put_set(out, c, set);
-    put_list(out, d, list)
+// Appends a record.
+fn put_record(out: &mut Output, chord: Chord) {
+    put_note(out, chord.root);
+    put_note(out, chord.bass);
+    put_set(out, chord.normalized);
+    put_list(out, chord.display);
 }
 
-fn put_short(out: &mut [u8], used: usize, n: u16) -> usize {
-    put_next(out, used, n as u64)
-}
-
-fn put_shorts(out: &mut [u8], used: usize, numbers: &[u16]) -> usize {
-    let mut u = used;
-    let mut i = 0;
-    while i < numbers.len() {
-        u = put_short(out, u, numbers[i]);
-        i += 1;
+// Appends a count of errors, and the errors, four numbers each, which the list begins with.
+fn put_errors(out: &mut Output, errs: &[u16], n: u16) {
+    put_next(out, u64::from(n));
+    for number in errs.iter().take(4 * usize::from(n)) {
+        put_next(out, u64::from(*number));
     }
-    u
-}
-
-// Appends a refusal's number, the count of its errors, and the errors, which the list begins with.
-fn put_errors(out: &mut [u8], used: usize, number: u8, errs: &[u16], n: u16) -> usize {
-    let u = output::put(out, used, number);
-    let v = put_short(out, u, n);
-    let k = 4 * (n as usize);
-    if k <= errs.len() {
-        return put_shorts(out, v, &errs[..k]);
-    }
-    v
 }
 
 // Appends what a text was answered.
-pub(crate) fn put_reading(out: &mut [u8], used: usize, reading: Reading, errs: &[u16]) -> usize {
-    let answer = reading.answer;
-    let chord = reading.chord;
-    match answer {
-        reader::Answer::Accepted => put_record(out, used, chord),
-        reader::Answer::ShortList => output::put(out, used, b'1'),
-        reader::Answer::LongText => output::put(out, used, b'2'),
-        reader::Answer::NotUtf8 => output::put(out, used, b'3'),
-        reader::Answer::Parse(n) => put_errors(out, used, b'4', errs, n),
-        reader::Answer::Validation(n) => put_errors(out, used, b'5', errs, n),
+pub(crate) fn put_reading(out: &mut Output, reading: Reading, errs: &[u16]) {
+    put_answer(out, &reading.answer);
+    match reading.answer {
+        reader::Answer::Accepted => put_record(out, reading.chord),
+        reader::Answer::Parse(n) | reader::Answer::Validation(n) => put_errors(out, errs, n),
+        _ => {}
     }
 }
 
-// The digit of what a text was answered.
-fn digit(answer: reader::Answer) -> u8 {
-    match answer {
-        reader::Answer::Accepted => b'0',
-        reader::Answer::ShortList => b'1',
-        reader::Answer::LongText => b'2',
-        reader::Answer::NotUtf8 => b'3',
-        reader::Answer::Parse(_) => b'4',
-        reader::Answer::Validation(_) => b'5',
+// The record of an accepted text, or why it was refused.
+pub(crate) fn accepted(reading: Reading) -> Result<Chord, reader::Answer> {
+    match reading.answer {
+        reader::Answer::Accepted => Ok(reading.chord),
+        refusal => Err(refusal),
+    }
+}
+
+// Appends the spelling of a record.
+fn put_spelled(out: &mut Output, chord: Chord) {
+    let mut buffer = [0u8; LONGEST_SPELLING];
+    match writer::write(chord, &mut buffer) {
+        writer::Answer::Spelled(n) => out.put_first(&buffer, n),
+        refusal => put_answer(out, &refusal),
     }
 }
 
 // Appends the spelling of what was read, or the number.
-pub(crate) fn put_spelling(out: &mut [u8], used: usize, reading: Reading) -> usize {
-    let mut buffer = [0u8; 112];
-    let answer = reading.answer;
-    let number = digit(answer);
-    if number != b'0' {
-        return output::put(out, used, number);
-    }
-    match writer::write(reading.chord, &mut buffer) {
-        writer::Answer::Spelled(n) => output::put_first(out, used, &buffer, n),
-        writer::Answer::ShortBuffer => output::put(out, used, b'6'),
-        writer::Answer::NoText => output::put(out, used, b'7'),
+pub(crate) fn put_spelling(out: &mut Output, reading: Reading) {
+    match accepted(reading) {
+        Ok(chord) => put_spelled(out, chord),
+        Err(refusal) => put_answer(out, &refusal),
     }
 }
 
-// Appends what a record was answered, with this buffer.
-pub(crate) fn put_written(out: &mut [u8], used: usize, record: Record, buffer: &mut [u8]) -> usize {
-    let chord = record.chord;
-    if buffer.len() < 112 {
-        return output::put(out, used, b'6');
+// Appends what a record was answered, with this buffer: behind 0 the length of the spelling, and the spelling.
+pub(crate) fn put_written(out: &mut Output, record: Option<Chord>, buffer: &mut [u8]) {
+    let answer = match record {
+        Some(chord) => writer::write(chord, buffer),
+        None if buffer.len() < LONGEST_SPELLING => writer::Answer::ShortBuffer,
+        None => writer::Answer::NoText,
+    };
+    put_answer(out, &answer);
+    if let writer::Answer::Spelled(n) = answer {
+        put_next(out, n as u64);
+        out.put(b' ');
+        out.put_first(buffer, n);
     }
-    if !record.is_record {
-        return output::put(out, used, b'7');
-    }
-    match writer::write(chord, buffer) {
-        writer::Answer::Spelled(n) => put_text(out, used, buffer, n),
-        writer::Answer::ShortBuffer => output::put(out, used, b'6'),
-        writer::Answer::NoText => output::put(out, used, b'7'),
-    }
-}
-
-// Appends 0, the length of a spelling, and the spelling.
-fn put_text(out: &mut [u8], used: usize, buffer: &[u8], n: usize) -> usize {
-    let u = output::put(out, used, b'0');
-    let v = put_next(out, u, n as u64);
-    let w = output::put(out, v, b' ');
-    output::put_first(out, w, buffer, n)
 }

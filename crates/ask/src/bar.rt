@@ -1,41 +1,26 @@
 // A bar of a body and an ending by its number: which of the two lines has it, and where.
 ghost use Rattle.std.specs.Prelude.{◌≤◌};
 
-use crate::answer::put_next;
+use crate::answer::{put_answer, put_next};
 use endings::Spot;
+use output::Output;
 
-// Appends 0, the number of the line that has a bar, and the bar's place and length there.
-fn put_place(out: &mut [u8], used: usize, line: u64, spot: Spot) -> usize
+// Appends the number of the line that has a bar, and the bar's place and length there.
+fn put_place(out: &mut Output, line: u64, spot: Spot)
     requires { spot.from ≤ spot.to }
 {
-    let from = spot.from;
-    let u = output::put(out, used, b'0');
-    let v = put_next(out, u, line);
-    let w = put_next(out, v, from as u64);
-    put_next(out, w, (spot.to - from) as u64)
-}
-
-// Appends what a bar number was answered.
-fn put_spot(out: &mut [u8], used: usize, spot: Spot) -> usize
-    requires { spot.from ≤ spot.to }
-{
-    let answer = spot.answer;
-    match answer {
-        endings::Answer::TooLong => output::put(out, used, b'8'),
-        endings::Answer::NoBar => output::put(out, used, b'9'),
-        endings::Answer::Body => put_place(out, used, 0, spot),
-        endings::Answer::Ending => put_place(out, used, 1, spot),
-    }
+    put_next(out, line);
+    put_next(out, spot.from as u64);
+    put_next(out, (spot.to - spot.from) as u64);
 }
 
 // Looks a bar number up in a body and an ending, and appends the answer.
-pub(crate) fn put_numbered<'a>(
-    out: &mut [u8],
-    used: usize,
-    body: &'a [u8],
-    ending: &'a [u8],
-    number: usize,
-) -> usize {
+pub(crate) fn put_numbered(out: &mut Output, body: &[u8], ending: &[u8], number: usize) {
     let spot = endings::spot_of(body, ending, number);
-    put_spot(out, used, spot)
+    put_answer(out, &spot.answer);
+    match spot.answer {
+        endings::Answer::Body => put_place(out, 0, spot),
+        endings::Answer::Ending => put_place(out, 1, spot),
+        _ => {}
+    }
 }

@@ -7,9 +7,6 @@
 // and why. What waits is written where a block of input ends, so that a caller who waits for an answer gets it.
 #![tactic(auto)]
 
-ghost use Rattle.std.specs.Prelude.{◌≤◌};
-ghost use Rattle.io.specs.Counts.{IsPrefixLen};
-
 mod answer;
 mod bar;
 mod fault;
@@ -18,348 +15,243 @@ mod record;
 mod sounding;
 mod steps;
 
-use answer::{HALF, put_reading, put_spelling, put_written};
+use answer::{put_reading, put_spelling, put_written};
 use bar::put_numbered;
-use fault::{Fault, put_fault};
+use chord::Chord;
+use fault::Fault;
 use keys::Keys;
-use lines::Input;
-use number::{Number, behind_space, next_number};
-use record::next_record;
-use sounding::{Said, put_change};
+use lines::Lines;
+use number::Words;
+use output::Output;
+use sounding::put_change;
 use std::io;
-use std::io::{Read, Write};
+use std::io::Write;
 use steps::{put_song, put_step};
 
 // A LIST above this counts as this.
-const LONGEST_LIST: u64 = 1028;
+const LONGEST_LIST: usize = 1028;
 
 // A BUFFER or a ROOM above this counts as this.
-const LARGEST_BUFFER: u64 = 4096;
+const LARGEST_BUFFER: usize = 4096;
 
 // The longest question, in bytes.
 const LONGEST_LINE: usize = 16384;
 
-// The number, or `most` where it is larger.
-fn at_most(n: u64, most: u64) -> usize
-    ensures { result ≤ most }
-{
-    if n < most {
-        return n as usize;
+// A question. Its lists and buffers may be asked for in any size.
+#[derive(Clone, Copy)]
+enum Question<'a> {
+    Read {
+        list: u64,
+        text: &'a [u8],
+    },
+    Spell {
+        text: &'a [u8],
+    },
+    Write {
+        buffer: u64,
+        record: Option<Chord>,
+    },
+    Step {
+        list: u64,
+        position: u64,
+        line: &'a [u8],
+    },
+    Song {
+        line: &'a [u8],
+    },
+    Bar {
+        number: u64,
+        body: &'a [u8],
+        ending: &'a [u8],
+    },
+    Midi {
+        base: u8,
+        room: u64,
+        record: Option<Chord>,
+    },
+    Silence,
+}
+
+// `read LIST TEXT`, behind its first word; so below.
+fn parse_read(mut words: Words) -> Result<Question, Fault> {
+    let list = words.number_or_largest()?;
+    let text = words.rest();
+    Ok(Question::Read { list, text })
+}
+
+// `write BUFFER RECORD`.
+fn parse_write(mut words: Words) -> Result<Question, Fault> {
+    let buffer = words.number_or_largest()?;
+    let record = words.record()?;
+    Ok(Question::Write { buffer, record })
+}
+
+// `step LIST POSITION LINE`.
+fn parse_step(mut words: Words) -> Result<Question, Fault> {
+    let list = words.number_or_largest()?;
+    let position = words.number()?;
+    let line = words.rest();
+    Ok(Question::Step {
+        list,
+        position,
+        line,
+    })
+}
+
+// `bar K LENGTH BYTES`. A LENGTH above the count of bytes is too large.
+fn parse_bar(mut words: Words) -> Result<Question, Fault> {
+    let number = words.number()?;
+    let length = words.number()? as usize;
+    let bytes = words.rest();
+    if bytes.len() < length {
+        return Err(Fault::LargeNumber);
     }
-    most as usize
+    let (body, ending) = bytes.split_at(length);
+    Ok(Question::Bar {
+        number,
+        body,
+        ending,
+    })
 }
 
-// Of a number that may be any: whether it is missing.
-fn is_missing(fault: Fault) -> bool {
-    match fault {
-        Fault::NoNumber => true,
-        _ => false,
+// `midi silence`, or `midi BASE ROOM RECORD`. A BASE that is no byte is too large.
+fn parse_midi(mut words: Words) -> Result<Question, Fault> {
+    if let b"silence" = words.rest() {
+        return Ok(Question::Silence);
+    }
+    let base = u8::try_from(words.number()?).map_err(|_| Fault::LargeNumber)?;
+    let room = words.number_or_largest()?;
+    let record = words.record()?;
+    Ok(Question::Midi { base, room, record })
+}
+
+// The question that a line asks. The first thing that is wrong with it is what is wrong.
+fn parse(line: &[u8]) -> Result<Question, Fault> {
+    if LONGEST_LINE < line.len() {
+        return Err(Fault::LongLine);
+    }
+    let mut words = Words::new(line);
+    match words.word() {
+        b"read" => parse_read(words),
+        b"spell" => Ok(Question::Spell { text: words.rest() }),
+        b"write" => parse_write(words),
+        b"step" => parse_step(words),
+        b"song" => Ok(Question::Song { line: words.rest() }),
+        b"bar" => parse_bar(words),
+        b"midi" => parse_midi(words),
+        _ => Err(Fault::NoQuestion),
     }
 }
 
-// Reads a text with a lent list, and appends the answer.
-fn put_read(out: &mut [u8], used: usize, text: &[u8], list: &mut [u16]) -> usize {
-    let r = reader::read(text, list);
-    put_reading(out, used, r, list)
+// The first n of what there is to lend; all where there are fewer.
+fn lent<T>(all: &mut [T], n: u64) -> &mut [T] {
+    let n = all.len().min(n as usize);
+    &mut all[..n]
 }
 
-// Answers `read LIST TEXT`.
-fn answer_read(out: &mut [u8], used: usize, line: &[u8]) -> usize {
-    let list = next_number(line, 4);
-    let fault = list.fault;
-    if is_missing(fault) {
-        return put_fault(out, used, fault);
-    }
-    let n = at_most(list.value, LONGEST_LIST);
-    let from = behind_space(line, list.at);
-    let mut errs = [0u16; 1028];
-    put_read(out, used, &line[from..], &mut errs[..n])
+// Answers `read`.
+fn answer_read(out: &mut Output, list: u64, text: &[u8]) {
+    let mut errs = [0u16; LONGEST_LIST];
+    let errs = lent(&mut errs, list);
+    let reading = reader::read(text, errs);
+    put_reading(out, reading, errs);
 }
 
-// Answers `spell TEXT`.
-fn answer_spell(out: &mut [u8], used: usize, line: &[u8]) -> usize {
-    let from = behind_space(line, 5);
-    let mut errs = [0u16; 1028];
-    let r = reader::read(&line[from..], &mut errs);
-    put_spelling(out, used, r)
+// Answers `spell`.
+fn answer_spell(out: &mut Output, text: &[u8]) {
+    let mut errs = [0u16; LONGEST_LIST];
+    put_spelling(out, reader::read(text, &mut errs));
 }
 
-// Answers `write BUFFER RECORD`.
-fn answer_write(out: &mut [u8], used: usize, line: &[u8]) -> usize {
-    let size = next_number(line, 5);
-    let missing = size.fault;
-    if is_missing(missing) {
-        return put_fault(out, used, missing);
-    }
-    let record = next_record(line, size.at);
-    let fault = record.fault;
-    if !fault.is_nothing() {
-        return put_fault(out, used, fault);
-    }
-    let n = at_most(size.value, LARGEST_BUFFER);
-    let mut buffer = [0u8; 4096];
-    put_written(out, used, record, &mut buffer[..n])
+// Answers `write`.
+fn answer_write(out: &mut Output, buffer: u64, record: Option<Chord>) {
+    let mut bytes = [0u8; LARGEST_BUFFER];
+    put_written(out, record, lent(&mut bytes, buffer));
 }
 
-// Answers `step LIST POSITION LINE`.
+// Answers `step`.
 fn answer_step<W: Write>(
     to: &mut W,
-    out: &mut [u8],
-    used: usize,
+    out: &mut Output,
+    list: u64,
+    position: u64,
     line: &[u8],
-) -> io::Result<usize> {
-    let list = next_number(line, 4);
-    let missing = list.fault;
-    if is_missing(missing) {
-        return Ok(put_fault(out, used, missing));
-    }
-    let position = next_number(line, list.at);
-    let fault = position.fault;
-    if !fault.is_nothing() {
-        return Ok(put_fault(out, used, fault));
-    }
-    let n = at_most(list.value, LONGEST_LIST);
-    let from = behind_space(line, position.at);
-    let mut errs = [0u16; 1028];
-    let p = put_step(
-        to,
-        out,
-        used,
-        &line[from..],
-        position.value as usize,
-        &mut errs[..n],
-    )?;
-    Ok(p.used)
-}
-
-// Answers `song LINE`.
-fn answer_song<W: Write>(
-    to: &mut W,
-    out: &mut [u8],
-    used: usize,
-    line: &[u8],
-) -> io::Result<usize> {
-    let from = behind_space(line, 4);
-    let mut errs = [0u16; 1028];
-    put_song(to, out, used, &line[from..], &mut errs)
-}
-
-// Answers `bar K LENGTH BYTES`. The first number that is wrong makes the line no question, and so does a LENGTH above the count of bytes.
-fn answer_bar(out: &mut [u8], used: usize, line: &[u8]) -> usize {
-    let number = next_number(line, 3);
-    let length = next_number(line, number.at);
-    let first = number.fault;
-    let second = length.fault;
-    let fault = first.or(second);
-    if !fault.is_nothing() {
-        return put_fault(out, used, fault);
-    }
-    let from = behind_space(line, length.at);
-    let n = length.value as usize;
-    if line.len() - from < n {
-        return put_fault(out, used, Fault::LargeNumber);
-    }
-    let middle = from + n;
-    put_numbered(
-        out,
-        used,
-        &line[from..middle],
-        &line[middle..],
-        number.value as usize,
-    )
-}
-
-// What is wrong with a BASE: one that is no byte is too large.
-fn base_fault(base: Number) -> Fault {
-    if 255 < base.value {
-        return Fault::LargeNumber;
-    }
-    base.fault
-}
-
-// What is wrong with a ROOM: it may be any number.
-fn room_fault(room: Number) -> Fault {
-    let fault = room.fault;
-    if is_missing(fault) {
-        return fault;
-    }
-    Fault::Nothing
-}
-
-// The number as a byte, or 255 where it is larger.
-fn byte_of(n: u64) -> u8 {
-    if n < 256 {
-        return n as u8;
-    }
-    255
-}
-
-// Answers `midi BASE ROOM RECORD`. The first number that is wrong makes the line no question, which leaves the keys as they are.
-fn answer_midi(out: &mut [u8], used: usize, line: &[u8], keys: Keys) -> Said {
-    let base = next_number(line, 4);
-    let room = next_number(line, base.at);
-    let record = next_record(line, room.at);
-    let first = base_fault(base);
-    let second = room_fault(room);
-    let third = record.fault;
-    let fault = first.or(second).or(third);
-    if !fault.is_nothing() {
-        let u = put_fault(out, used, fault);
-        return Said { used: u, keys };
-    }
-    let n = at_most(room.value, LARGEST_BUFFER);
-    let mut buffer = [0u8; 4096];
-    put_change(
-        out,
-        used,
-        keys,
-        byte_of(base.value),
-        record,
-        &mut buffer[..n],
-    )
-}
-
-// Is the first word this one?
-fn asks(line: &[u8], word: &[u8]) -> bool {
-    if line.len() < word.len() {
-        return false;
-    }
-    let mut i = 0;
-    while i < word.len() {
-        if line[i] != word[i] {
-            return false;
-        }
-        i += 1;
-    }
-    number::is_end(line, i)
-}
-
-// Answers a line that does not ask for `midi`.
-fn put_answer<W: Write>(to: &mut W, out: &mut [u8], used: usize, line: &[u8]) -> io::Result<usize> {
-    if LONGEST_LINE < line.len() {
-        return Ok(put_fault(out, used, Fault::LongLine));
-    }
-    if asks(line, b"read") {
-        return Ok(answer_read(out, used, line));
-    }
-    if asks(line, b"spell") {
-        return Ok(answer_spell(out, used, line));
-    }
-    if asks(line, b"write") {
-        return Ok(answer_write(out, used, line));
-    }
-    if asks(line, b"step") {
-        return answer_step(to, out, used, line);
-    }
-    if asks(line, b"song") {
-        return answer_song(to, out, used, line);
-    }
-    if asks(line, b"bar") {
-        return Ok(answer_bar(out, used, line));
-    }
-    Ok(put_fault(out, used, Fault::NoQuestion))
-}
-
-// Does the line ask for `midi`? One that is too long asks for nothing.
-fn is_midi(line: &[u8]) -> bool {
-    if LONGEST_LINE < line.len() {
-        return false;
-    }
-    asks(line, b"midi")
-}
-
-// Is the line `midi silence`, and no more?
-fn is_silence(line: &[u8]) -> bool {
-    if line.len() == 12 {
-        return asks(line, b"midi silence");
-    }
-    false
-}
-
-// Answers a line. Only `midi` changes the keys that sound.
-fn answered<W: Write>(
-    to: &mut W,
-    out: &mut [u8],
-    used: usize,
-    line: &[u8],
-    keys: Keys,
-) -> io::Result<Said> {
-    if is_silence(line) {
-        let u = output::put_bytes(out, used, b"0 0");
-        return Ok(Said {
-            used: u,
-            keys: Keys::new(),
-        });
-    }
-    if is_midi(line) {
-        return Ok(answer_midi(out, used, line, keys));
-    }
-    let u = put_answer(to, out, used, line)?;
-    Ok(Said { used: u, keys })
-}
-
-// Appends the answer to a line that is ready.
-fn answer_line<W: Write>(
-    to: &mut W,
-    out: &mut [u8],
-    said: Said,
-    line: &[u8],
-    s: Input,
-) -> io::Result<Said>
-    requires { IsPrefixLen s.len line.now }
-{
-    if !s.ready {
-        return Ok(said);
-    }
-    let len = s.len;
-    let before = said.keys;
-    let u = output::room(to, out, said.used, HALF)?;
-    let a = answered(to, out, u, &line[..len], before)?;
-    let keys = a.keys;
-    let used = output::put(out, a.used, b'\n');
-    Ok(Said { used, keys })
-}
-
-// Writes what waits where the block has no bytes left, before the next is waited for.
-fn settled<W: Write>(to: &mut W, out: &[u8], said: Said, s: Input) -> io::Result<Said> {
-    if s.at < s.end {
-        return Ok(said);
-    }
-    let keys = said.keys;
-    let used = output::flush(to, out, said.used)?;
-    Ok(Said { used, keys })
-}
-
-// Answers every line of the input.
-fn answer_all<R: Read, W: Write>(
-    from: &mut R,
-    to: &mut W,
-    out: &mut [u8],
-    line: &mut [u8],
-    block: &mut [u8],
 ) -> io::Result<()> {
-    let mut s = lines::start();
-    let mut said = Said {
-        used: 0,
-        keys: Keys::new(),
-    };
-    while 0 < s.left {
-        s = lines::next(from, block, line, s)?;
-        said = answer_line(to, out, said, line, s)?;
-        said = settled(to, out, said, s)?;
+    let mut errs = [0u16; LONGEST_LIST];
+    put_step(to, out, line, position as usize, lent(&mut errs, list))?;
+    Ok(())
+}
+
+// Answers `song`.
+fn answer_song<W: Write>(to: &mut W, out: &mut Output, line: &[u8]) -> io::Result<()> {
+    let mut errs = [0u16; LONGEST_LIST];
+    put_song(to, out, line, &mut errs)
+}
+
+// Answers `midi` with a record.
+fn answer_midi(out: &mut Output, keys: &mut Keys, base: u8, room: u64, record: Option<Chord>) {
+    let mut bytes = [0u8; LARGEST_BUFFER];
+    put_change(out, keys, base, record, lent(&mut bytes, room));
+}
+
+// Answers `midi silence`.
+fn silence(out: &mut Output, keys: &mut Keys) {
+    *keys = Keys::new();
+    out.put_bytes(b"0 0");
+}
+
+// Answers a question. Only `midi` changes the keys that sound.
+fn answer_question<W: Write>(
+    to: &mut W,
+    out: &mut Output,
+    keys: &mut Keys,
+    question: Question,
+) -> io::Result<()> {
+    match question {
+        Question::Read { list, text } => answer_read(out, list, text),
+        Question::Spell { text } => answer_spell(out, text),
+        Question::Write { buffer, record } => answer_write(out, buffer, record),
+        Question::Step {
+            list,
+            position,
+            line,
+        } => answer_step(to, out, list, position, line)?,
+        Question::Song { line } => answer_song(to, out, line)?,
+        Question::Bar {
+            number,
+            body,
+            ending,
+        } => put_numbered(out, body, ending, number as usize),
+        Question::Midi { base, room, record } => answer_midi(out, keys, base, room, record),
+        Question::Silence => silence(out, keys),
     }
     Ok(())
 }
 
+// Answers a line.
+fn answer_line<W: Write>(
+    to: &mut W,
+    out: &mut Output,
+    keys: &mut Keys,
+    line: &[u8],
+) -> io::Result<()> {
+    match parse(line) {
+        Ok(question) => answer_question(to, out, keys, question)?,
+        Err(fault) => out.put_bytes(fault.text().as_bytes()),
+    }
+    out.put(b'\n');
+    Ok(())
+}
+
 fn main(rt: HostRuntime) -> io::Result<()> {
-    let mut out = [0u8; 65536];
+    let mut waiting = [0u8; 65536];
     let mut line = [0u8; 16385];
     let mut block = [0u8; 65536];
-    answer_all(
+    let mut keys = Keys::new();
+    Lines::new(&mut block, &mut line).answer_all(
         &mut rt.stdin(),
         &mut rt.stdout(),
-        &mut out,
-        &mut line,
-        &mut block,
+        &mut Output::new(&mut waiting),
+        |to, out, _, line| answer_line(to, out, &mut keys, line),
     )
 }

@@ -1,166 +1,104 @@
-// The numbers of a question: decimal, one space before each.
-ghost use Rattle.std.specs.Prelude.{◌≤◌, length};
-
+// The words of a question, one space before each: its first word, decimal numbers, and the bytes behind them.
 use crate::fault::Fault;
 
-// A number, the place behind it, and what is wrong with it. One that is too large is the largest.
-#[derive(Clone, Copy)]
-pub(crate) struct Number {
-    pub(crate) value: u64,
-    pub(crate) at: usize,
-    pub(crate) fault: Fault,
-}
-
-// A number and whether it is whole, or too large.
-#[derive(Clone, Copy)]
-struct Value {
-    n: u64,
-    fits: bool,
-}
-
-// The value of a digit; 10 of any other byte.
-fn digit(byte: u8) -> u8
-    ensures { result ≤ 10 }
-{
-    if byte < b'0' {
-        return 10;
+// The value of a digit.
+fn digit(byte: u8) -> Option<u64> {
+    match byte {
+        b'0'..=b'9' => Some(u64::from(byte - b'0')),
+        _ => None,
     }
-    if b'9' < byte {
-        return 10;
-    }
-    byte - b'0'
 }
 
 // The number with one more digit.
-fn with_digit(v: Value, d: u8) -> Value
-    requires { d ≤ 10 }
-{
-    let n = v.n;
-    let more = d as u64;
-    if n <= (u64::MAX - more) / 10 {
-        return Value {
-            n: 10 * n + more,
-            fits: v.fits,
-        };
-    }
-    Value {
-        n: u64::MAX,
-        fits: false,
-    }
+fn with_digit(n: u64, digit: u64) -> Option<u64> {
+    n.checked_mul(10)?.checked_add(digit)
 }
 
-fn fault_of(v: Value) -> Fault {
-    if v.fits {
-        return Fault::Nothing;
+// The number that a word is in decimal. A word with a byte that is no digit is none, however long it is.
+fn number_of(word: &[u8]) -> Result<u64, Fault> {
+    if word.is_empty() {
+        return Err(Fault::NoNumber);
     }
-    Fault::LargeNumber
+    let mut n = Some(0);
+    for byte in word {
+        let d = digit(*byte).ok_or(Fault::NoNumber)?;
+        n = n.and_then(|n| with_digit(n, d));
+    }
+    n.ok_or(Fault::LargeNumber)
 }
 
-// Does a space or the end of the line stand at a place?
-pub(crate) fn is_end(line: &[u8], at: usize) -> bool {
-    if at < line.len() {
-        return line[at] == b' ';
-    }
-    true
+// What is not taken yet of a question's line. A word is taken also where it is refused as a number.
+#[derive(Clone, Copy)]
+pub(crate) struct Words<'a> {
+    left: &'a [u8],
 }
 
-// The number whose digits end at a place.
-fn ended(line: &[u8], from: usize, at: usize, v: Value) -> Number {
-    let value = v.n;
-    let fault = fault_of(v);
-    if at == from {
-        return Number {
-            value: 0,
-            at,
-            fault: Fault::NoNumber,
-        };
+impl<'a> Words<'a> {
+    pub(crate) fn new(line: &'a [u8]) -> Words<'a> {
+        Words { left: line }
     }
-    if is_end(line, at) {
-        return Number { value, at, fault };
-    }
-    Number {
-        value: 0,
-        at,
-        fault: Fault::NoNumber,
-    }
-}
 
-// The number whose digits begin at a place.
-fn number_from(line: &[u8], from: usize) -> Number {
-    let mut v = Value { n: 0, fits: true };
-    let mut i = from;
-    while i < line.len() {
-        let d = digit(line[i]);
-        if d == 10 {
-            return ended(line, from, i, v);
-        }
-        v = with_digit(v, d);
-        i += 1;
+    // Takes the bytes up to the next space or the end.
+    pub(crate) fn word(&mut self) -> &'a [u8] {
+        let left = self.left;
+        let n = left
+            .iter()
+            .position(|byte| *byte == b' ')
+            .unwrap_or(left.len());
+        let (word, behind) = left.split_at(n);
+        self.left = behind;
+        word
     }
-    ended(line, from, i, v)
-}
 
-// The place behind the space at a place; the end of the line where there is none.
-pub(crate) fn behind_space(line: &[u8], at: usize) -> usize
-    ensures { result ≤ length line.now }
-{
-    if at < line.len() {
-        if line[at] == b' ' {
-            return at + 1;
+    // Takes the word behind the next space; at the end it is empty.
+    fn next(&mut self) -> &'a [u8] {
+        self.left = self.rest();
+        self.word()
+    }
+
+    // Takes the next number.
+    pub(crate) fn number(&mut self) -> Result<u64, Fault> {
+        number_of(self.next())
+    }
+
+    // Takes the next number; one that is too large is the largest.
+    pub(crate) fn number_or_largest(&mut self) -> Result<u64, Fault> {
+        match self.number() {
+            Err(Fault::LargeNumber) => Ok(u64::MAX),
+            number => number,
         }
     }
-    line.len()
-}
 
-// The number behind the space at a place.
-pub(crate) fn next_number(line: &[u8], at: usize) -> Number {
-    number_from(line, behind_space(line, at))
-}
+    // Takes the next number, or -1, for which None stands.
+    pub(crate) fn signed(&mut self) -> Result<Option<u64>, Fault> {
+        match self.next() {
+            b"-1" => Ok(None),
+            word => Ok(Some(number_of(word)?)),
+        }
+    }
 
-// The place behind `-1`, where that stands with a space or the end of the line behind it; `from` otherwise.
-fn behind_minus_one(line: &[u8], from: usize) -> usize
-    requires { from ≤ length line.now }
-{
-    if line.len() - from < 2 {
-        return from;
+    // All that stands behind the next space.
+    pub(crate) fn rest(self) -> &'a [u8] {
+        match self.left {
+            [b' ', behind @ ..] => behind,
+            _ => &[],
+        }
     }
-    if line[from] != b'-' {
-        return from;
-    }
-    if line[from + 1] != b'1' {
-        return from;
-    }
-    if is_end(line, from + 2) {
-        return from + 2;
-    }
-    from
-}
 
-// One more than a number, or the largest.
-fn risen(n: Number) -> Number {
-    let value = n.value;
-    let at = n.at;
-    let fault = n.fault;
-    if value < u64::MAX {
-        return Number {
-            value: value + 1,
-            at,
-            fault,
-        };
+    // All that stands behind the next space and a `=`, if one stands there.
+    pub(crate) fn text(self) -> Option<&'a [u8]> {
+        match self.rest() {
+            [b'=', text @ ..] => Some(text),
+            _ => None,
+        }
     }
-    n
-}
 
-// One more than the number behind the space at a place, which may be -1. The largest stays.
-pub(crate) fn next_signed(line: &[u8], at: usize) -> Number {
-    let from = behind_space(line, at);
-    let end = behind_minus_one(line, from);
-    if from < end {
-        return Number {
-            value: 0,
-            at: end,
-            fault: Fault::Nothing,
-        };
+    // Nothing may be left.
+    pub(crate) fn end(self) -> Result<(), Fault> {
+        if self.left.is_empty() {
+            Ok(())
+        } else {
+            Err(Fault::MoreThanRecord)
+        }
     }
-    risen(number_from(line, from))
 }

@@ -1,83 +1,72 @@
 // The steps of a song line: the new position, and what the step said.
 ghost use Rattle.std.specs.Prelude.{◌≤◌};
 
-use crate::answer::{HALF, put_next, put_reading};
+use crate::answer::{put_next, put_reading};
+use output::Output;
 use reader::Reading;
-use song::Step;
+use song::{Answer, Step};
 use std::io;
 use std::io::Write;
 
-// A line has 4,097 bars at most, and the step behind the last says end.
-const MOST_STEPS: u64 = 4098;
+// Half of the output's buffer: where so much waits it is written before the next answer. The longest, 257 errors, is below 8,000 bytes.
+const HALF: usize = 32768;
 
-// The bytes of the output that are used behind a step, and the new position.
-#[derive(Clone, Copy)]
-pub(crate) struct Printed {
-    pub(crate) used: usize,
-    pub(crate) at: usize,
-}
+// A line has 4,097 bars at most, and the step behind the last says end.
+const MOST_STEPS: usize = 4098;
 
 // Appends where a bar lies, and what it was answered.
-fn put_bar(out: &mut [u8], used: usize, answer: reader::Answer, step: Step, errs: &[u16]) -> usize
+fn put_bar(out: &mut Output, answer: reader::Answer, step: Step, errs: &[u16])
     requires { step.from ≤ step.to }
 {
+    out.put_bytes(b" bar");
+    put_next(out, step.from as u64);
+    put_next(out, (step.to - step.from) as u64);
+    out.put(b' ');
     let chord = step.chord;
-    let from = step.from;
-    let u = output::put_bytes(out, used, b" bar");
-    let v = put_next(out, u, from as u64);
-    let w = put_next(out, v, (step.to - from) as u64);
-    let x = output::put(out, w, b' ');
-    put_reading(out, x, Reading { answer, chord }, errs)
+    put_reading(out, Reading { answer, chord }, errs);
 }
 
 // Appends what a step said.
-fn put_said(out: &mut [u8], used: usize, step: Step, errs: &[u16]) -> usize
+fn put_said(out: &mut Output, step: Step, errs: &[u16])
     requires { step.from ≤ step.to }
 {
-    let answer = step.answer;
-    match answer {
-        song::Answer::TooLong => output::put_bytes(out, used, b" 8"),
-        song::Answer::End => output::put_bytes(out, used, b" end"),
-        song::Answer::Bar(a) => put_bar(out, used, a, step, errs),
+    match step.answer {
+        Answer::TooLong => out.put_bytes(b" 8"),
+        Answer::End => out.put_bytes(b" end"),
+        Answer::Bar(answer) => put_bar(out, answer, step, errs),
     }
 }
 
-// Takes the step at a position with a lent list, makes room for its answer, and appends it.
+// Takes the step at a position with a lent list, makes room for its answer, appends it, and gives the new position.
 pub(crate) fn put_step<W: Write>(
     to: &mut W,
-    out: &mut [u8],
-    used: usize,
+    out: &mut Output,
     line: &[u8],
     at: usize,
     errs: &mut [u16],
-) -> io::Result<Printed> {
-    let s = song::step_at(line, at, errs);
-    let next = s.next;
-    let u = output::room(to, out, used, HALF)?;
-    let v = output::put_number(out, u, next as u64, 0);
-    let w = put_said(out, v, s, errs);
-    Ok(Printed { used: w, at: next })
+) -> io::Result<usize> {
+    let step = song::step_at(line, at, errs);
+    out.room(to, HALF)?;
+    out.put_number(step.next as u64, 0);
+    put_said(out, step, errs);
+    Ok(step.next)
 }
 
 // Appends the steps from the line's start on, a line each. The first that stays where it is, with end or 8, is the last.
 pub(crate) fn put_song<W: Write>(
     to: &mut W,
-    out: &mut [u8],
-    used: usize,
+    out: &mut Output,
     line: &[u8],
     errs: &mut [u16],
-) -> io::Result<usize> {
-    let mut u = used;
+) -> io::Result<()> {
     let mut at = 0;
-    let mut left = MOST_STEPS;
-    while 0 < left {
-        let p = put_step(to, out, u, line, at, errs)?;
-        if p.at == at {
-            return Ok(p.used);
+    for _ in 0..MOST_STEPS {
+        let next = put_step(to, out, line, at, errs)?;
+        if next == at {
+            return Ok(());
         }
-        u = output::put(out, p.used, b'\n');
-        at = p.at;
-        left -= 1;
+        out.put(b'\n');
+        at = next;
     }
-    Ok(u)
+    Ok(())
 }

@@ -3,5 +3,5 @@
 use Rattle.song.proofs.Laws.{step-within}
 use Rattle.ask.proofs.steps.put_step.Goals as goal
 
-pub put_said-w-requires : goal.put_said-w-requires
-put_said-w-requires g c = (step-within c.step_at-s.ensures).0
+pub put_said-requires : goal.put_said-requires
+put_said-requires g c = (step-within c.step_at-step.ensures).0

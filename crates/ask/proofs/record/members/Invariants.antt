@@ -1,9 +1,0 @@
--- The measure is the count of members that are left.
--- Assumes nothing.
-use Rattle.ask.proofs.record.members.Given as goal
-
-abbrev pub invariant-loop-left : goal.invariant-loop-left
-invariant-loop-left l = Unit {0}
-
-abbrev pub decreases-loop-left : goal.decreases-loop-left
-decreases-loop-left l = l.left
