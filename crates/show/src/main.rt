@@ -12,37 +12,28 @@ mod errors;
 mod print;
 mod songs;
 
+use chords::put_chord;
 use errors::put_errors;
 use lines::Input;
-use print::put;
 use reader::{Answer, Reading};
 use songs::{is_song, show_song};
 use std::env::{Env, FillError};
 use std::io;
 use std::io::{Read, Write};
 
-fn put_refusal<W: Write>(to: &mut W, text: &[u8], answer: Answer, errs: &[u16]) -> io::Result<()> {
-    match answer {
-        Answer::Accepted => put(to, b"accepted\n"),
-        Answer::ShortList => put(to, b"the list of errors is too short\n"),
-        Answer::LongText => put(to, b"the text has more than 256 bytes\n"),
-        Answer::NotUtf8 => put(to, b"the text is not UTF-8\n"),
-        Answer::Parse(n) => put_errors(to, text, errs, n),
-        Answer::Validation(n) => put_errors(to, text, errs, n),
-    }
-}
-
+// Prints what there is to say of a text that was read.
 pub(crate) fn put_reading<W: Write>(
     to: &mut W,
     text: &[u8],
     reading: Reading,
     errs: &[u16],
 ) -> io::Result<()> {
-    let answer = reading.answer;
-    let chord = reading.chord;
-    match answer {
-        Answer::Accepted => chords::put_chord(to, text, chord),
-        _ => put_refusal(to, text, answer, errs),
+    match (reading.answer, str::from_utf8(text)) {
+        (Answer::ShortList, _) => writeln!(to, "the list of errors is too short"),
+        (Answer::LongText, _) => writeln!(to, "the text has more than 256 bytes"),
+        (Answer::NotUtf8, _) | (_, Err(_)) => writeln!(to, "the text is not UTF-8"),
+        (Answer::Accepted, Ok(text)) => put_chord(to, text, reading.chord),
+        (Answer::Parse(n) | Answer::Validation(n), Ok(text)) => put_errors(to, text, errs, n),
     }
 }
 
