@@ -1,28 +1,26 @@
--- The walk to the first newline: what is left of a list from i on says how far it is.
+-- The walk to the first newline gives the first place of one, or the length.
 -- Assumes nothing.
-use mathlib.Core.Bool.{Bool, true, false, cond}
-use mathlib.Core.List.{List}
-use mathlib.Core.Path.{◌≡◌, ap, ◌∙◌}
-use Prim.Native.Nat.{ℕ, suc, ◌+◌, ◌<◌}
-use native.Mathlib.Omega.{arith}
-use lib.Dec.{eqb}
-use lib.ListN.{length, drop, get_or}
-use lib.Seq.{drop-cons, drop-length}
+use Rattle.std.proofs.Common.{◌≡◌, ℕ, Bool, true, false, List, refl, length, ◌≤◌, ◌==◌, cond, Some, None, eqb, ltb, arith, ap}
+use borrow.Author.Tests.{ltb-false}
+use Rattle.std.specs.Option.{unwrap_or}
+use Rattle.std.specs.List.{position_or_len, position}
+use Rattle.std.proofs.lemmas.List.Sums.{prefix_len-le-length}
+use Rattle.std.proofs.lemmas.List.Recursion.{is_position_or_len}
 use Rattle.lines.specs.Input.{to_newline}
 
--- a byte that is a newline ends the walk, and any other is passed
-pub here : (l : List ℕ) (i : ℕ) → i < length l → eqb (get_or l i 0) 10 ≡ true → to_newline (drop i l) ≡ 0
+to_newline-first : (l : List ℕ) → to_newline l ≡ position_or_len (λ x. x == 10) l
 unfolding to_newline
-here l i h e = ap to_newline (drop-cons l i 0 h) ∙ ap (λ (b : Bool). cond b 0 (suc (to_newline (drop (suc i) l)))) e
+to_newline-first l = is_position_or_len to_newline (λ x. x == 10) refl (λ x xs. ap (λ n. cond (eqb x 10) 0 n) (omega arith)) l
 
-pub further : (l : List ℕ) (i : ℕ) → i < length l → eqb (get_or l i 0) 10 ≡ false → to_newline (drop i l) ≡ suc (to_newline (drop (i + 1) l))
-unfolding to_newline
-further l i h e =
-    let k : suc i ≡ i + 1 = omega arith in
-    ap to_newline (drop-cons l i 0 h)
-    ∙ ap (λ (b : Bool). cond b 0 (suc (to_newline (drop (suc i) l)))) e
-    ∙ ap (λ (j : ℕ). suc (to_newline (drop j l))) k
+-- the first place of a newline, or the length where there is none
+chosen : (k n : ℕ) → k ≤ n → (b : Bool) → ltb k n ≡ b → unwrap_or (cond b (Some k) None) n ≡ k
+chosen k n h true e = refl
+chosen k n h false e = let g : n ≤ k = ltb-false k n e in omega arith
 
-pub nothing : (l : List ℕ) (i : ℕ) → i ≡ length l → to_newline (drop i l) ≡ 0
-unfolding to_newline
-nothing l i e = ap (λ (j : ℕ). to_newline (drop j l)) e ∙ ap to_newline (drop-length l)
+pub first : (l : List ℕ) (n : ℕ) → n ≡ unwrap_or (position (λ x. x == 10) l) (length l) → (n ≡ to_newline l) × (n ≤ length l)
+first l n e =
+    let k : ℕ = position_or_len (λ x. x == 10) l in
+    let h : k ≤ length l = prefix_len-le-length _ l in
+    let c = chosen k (length l) h (ltb k (length l)) refl in
+    let t = to_newline-first l in
+    (omega (arith, e, c, t), omega (arith, e, c, h))

@@ -1,5 +1,4 @@
-// Output in a lent buffer, of which the first `used` bytes wait to be written. Each `put` gives the new count. What a
-// writer of the system does with the bytes cannot be said; all else is.
+// Output in a lent buffer. What a writer of the system does with the bytes cannot be said; all else is.
 #![tactic(auto)]
 
 ghost use Rattle.std.specs.Prelude.{cond, [], ◌∷◌, ◌≡◌, ◌-◌, ◌<◌, ◌≤◌, ltb, length, replicate, take, IfOk, OnErr, OnOk};
@@ -8,74 +7,103 @@ ghost use Rattle.output.specs.Output.{AppendsPart, Put, PutNumber};
 
 use std::io::{Error, ErrorKind, Write};
 
-// How many bytes wait once all are written.
-const NONE: usize = 0;
-
-// Appends a byte, while there is room.
-pub fn put(out: &mut [u8], used: usize, byte: u8) -> usize
-    ensures { Put (byte ∷ []) used result out.old out.new }
-{
-    if used < out.len() {
-        out[used] = byte;
-        return used + 1;
-    }
-    used
+// Bytes that wait to be written: the first `used` of a lent buffer.
+#[derive(Drop)]
+pub struct Output<'a> {
+    pub buffer: &'a mut [u8],
+    pub used: usize,
+    pub ghost within: { used ≤ length buffer.now },
 }
 
-// Appends bytes, while there is room.
-pub fn put_bytes(out: &mut [u8], used: usize, bytes: &[u8]) -> usize
-    ensures { Put bytes.now used result out.old out.new }
-{
-    let mut u = used;
-    let mut i = 0;
-    while i < bytes.len() {
-        u = put(out, u, bytes[i]);
-        i += 1;
+impl<'a> Output<'a> {
+    // Nothing waits.
+    pub fn new(buffer: &'a mut [u8]) -> Output<'a>
+        ensures { (result.used ≡ 0) × (result.buffer.now ≡ buffer.old) }
+    {
+        Output { buffer, used: 0 }
     }
-    u
-}
 
-// Appends the first n of some bytes, or all where there are fewer.
-pub fn put_first(out: &mut [u8], used: usize, bytes: &[u8], n: usize) -> usize
-    ensures { Put (take n bytes.now) used result out.old out.new }
-{
-    if n < bytes.len() {
-        return put_bytes(out, used, &bytes[..n]);
+    // The bytes that wait.
+    pub fn waiting(&self) -> &[u8]
+        ensures { result.now ≡ take self.now.used self.now.buffer.now }
+    {
+        &self.buffer[..self.used]
     }
-    put_bytes(out, used, bytes)
-}
 
-// Appends n spaces.
-fn put_spaces(out: &mut [u8], used: usize, n: usize) -> usize
-    ensures { Put (replicate n 32) used result out.old out.new }
-{
-    let mut u = used;
-    let mut i = 0;
-    while i < n {
-        u = put(out, u, b' ');
-        i += 1;
+    // Appends a byte, while there is room.
+    pub fn put(&mut self, byte: u8)
+        ensures { Put (byte ∷ []) self.old.used self.new.used self.old.buffer.now self.new.buffer.now }
+    {
+        if self.used < self.buffer.len() {
+            self.buffer[self.used] = byte;
+            self.used += 1;
+        }
     }
-    u
-}
 
-// How many spaces stand before k digits.
-fn spaces(columns: usize, k: usize) -> usize
-    ensures { result ≡ columns - k }
-{
-    if k < columns {
-        return columns - k;
+    // Appends bytes, while there is room.
+    pub fn put_bytes(&mut self, bytes: &[u8])
+        ensures { Put bytes.now self.old.used self.new.used self.old.buffer.now self.new.buffer.now }
+    {
+        for byte in bytes {
+            self.put(*byte);
+        }
     }
-    0
-}
 
-// Appends a number in decimal, right-justified in so many columns; a wider one in full.
-pub fn put_number(out: &mut [u8], used: usize, n: u64, columns: usize) -> usize
-    ensures { PutNumber n columns used result out.old out.new }
-{
-    let mut text = [0u8; 20];
-    let k = io::decimal(n, &mut text);
-    let u = put_spaces(out, used, spaces(columns, k));
-    put_bytes(out, u, &text[..k])
+    // Appends the first n of some bytes, or all where there are fewer.
+    pub fn put_first(&mut self, bytes: &[u8], n: usize)
+        ensures { Put (take n bytes.now) self.old.used self.new.used self.old.buffer.now self.new.buffer.now }
+    {
+        self.put_bytes(&bytes[..n.min(bytes.len())]);
+    }
+
+    // Appends n spaces.
+    fn put_spaces(&mut self, n: usize)
+        ensures { Put (replicate n 32) self.old.used self.new.used self.old.buffer.now self.new.buffer.now }
+    {
+        for _ in 0..n {
+            self.put(b' ');
+        }
+    }
+
+    // Appends a number in decimal, right-justified in so many columns; a wider one in full.
+    pub fn put_number(&mut self, n: u64, columns: usize)
+        ensures { PutNumber n columns self.old.used self.new.used self.old.buffer.now self.new.buffer.now }
+    {
+        let mut text = [0u8; 20];
+        let k = io::decimal(n, &mut text);
+        self.put_spaces(columns.saturating_sub(k));
+        self.put_bytes(&text[..k]);
+    }
+
+    // Writes all that waits; none waits then. After an error the writer has a first part of it, and it waits as before.
+    pub fn flush<W: Write>(&mut self, to: &mut W) -> Result<(), Error>
+        ensures none_wait { OnOk result (self.new.used ≡ 0) }
+        ensures buffer { self.new.buffer.now ≡ self.old.buffer.now }
+        ensures written { OnOk result (Appends (W.contents to.old) (W.contents to.new) (take self.old.used self.old.buffer.now)) }
+        ensures waits { OnErr result (self.new.used ≡ self.old.used) }
+        ensures failed { OnErr result (AppendsPart (W.contents to.old) (W.contents to.new) (take self.old.used self.old.buffer.now)) }
+    {
+        write_all(to, self.waiting())?;
+        self.used = 0;
+        Ok(())
+    }
+
+    // Makes room: writes what waits where it is `most` bytes or more. An error is as that of `flush`.
+    pub fn room<W: Write>(&mut self, to: &mut W, most: usize) -> Result<(), Error>
+        ensures waiting { OnOk result (self.new.used ≡ cond (ltb self.old.used most) self.old.used 0) }
+        ensures kept { self.old.used < most → to.new ≡ to.old }
+        ensures enough { self.old.used < most → result ≡ Ok tt }
+        ensures buffer { self.new.buffer.now ≡ self.old.buffer.now }
+        ensures written { most ≤ self.old.used →
+            OnOk result (Appends (W.contents to.old) (W.contents to.new) (take self.old.used self.old.buffer.now)) }
+        ensures waits { OnErr result (self.new.used ≡ self.old.used) }
+        ensures failed { OnErr result (AppendsPart (W.contents to.old) (W.contents to.new) (take self.old.used self.old.buffer.now)) }
+    {
+        if self.used < most {
+            return Ok(());
+        }
+        self.flush(to)
+    }
 }
 
 // Writes all the bytes, in as many calls as it takes. After an error the writer has a first part of them.
@@ -92,33 +120,4 @@ fn write_all<W: Write>(to: &mut W, bytes: &[u8]) -> Result<(), Error>
         at += n;
     }
     Ok(())
-}
-
-// Writes the first `used` bytes. None wait then. After an error the writer has a first part of them; the buffer and its count stand as they
-// were.
-pub fn flush<W: Write>(to: &mut W, out: &[u8], used: usize) -> Result<usize, Error>
-    ensures none_wait { IfOk result (λ n. n ≡ 0) }
-    ensures beyond { length out.now < used → result ≡ Ok 0 }
-    ensures written { used ≤ length out.now → OnOk result (Appends (W.contents to.old) (W.contents to.new) (take used out.now)) }
-    ensures failed { OnErr result (AppendsPart (W.contents to.old) (W.contents to.new) (take used out.now)) }
-{
-    if used <= out.len() {
-        write_all(to, &out[..used])?;
-    }
-    Ok(NONE)
-}
-
-// Makes room: writes what waits where it is `most` bytes or more. An error is as that of `flush`.
-pub fn room<W: Write>(to: &mut W, out: &[u8], used: usize, most: usize) -> Result<usize, Error>
-    ensures waiting { IfOk result (λ n. n ≡ cond (ltb used most) used 0) }
-    ensures kept { used < most → to.new ≡ to.old }
-    ensures enough { used < most → result ≡ Ok used }
-    ensures written { most ≤ used → used ≤ length out.now →
-        OnOk result (Appends (W.contents to.old) (W.contents to.new) (take used out.now)) }
-    ensures failed { OnErr result (AppendsPart (W.contents to.old) (W.contents to.new) (take used out.now)) }
-{
-    if used < most {
-        return Ok(used);
-    }
-    flush(to, out, used)
 }

@@ -1,7 +1,7 @@
 -- The spaces are put, and the digits that `decimal` gives behind them.
 use Rattle.std.proofs.Common.{ℕ, ap, replicate}
 use Rattle.output.proofs.Puts.{put_as, put_then}
-use Rattle.output.proofs.put_number.Goals as goal
+use Rattle.output.proofs.Output.put_number.Goals as goal
 
 pub returns : goal.returns
 returns c =
@@ -9,6 +9,6 @@ returns c =
       places = c.decimal-k.result;
       fewest = c.decimal-k.ensures.len;
       put = put_then
-          (put_as (ap (λ (n : ℕ). replicate n 32) c.spaces.ensures) c.put_spaces-u.ensures)
+          (put_as (ap (λ (n : ℕ). replicate n 32) c.saturating_sub.ensures) c.put_spaces.ensures)
           (put_as c.decimal-k.ensures.digits c.put_bytes.ensures);
     }

@@ -1,0 +1,5 @@
+use Rattle.output.proofs.Puts.{put_next}
+use Rattle.output.proofs.Output.put_bytes.Goals as goal
+
+pub loop-byte-preserved : goal.loop-byte-preserved
+loop-byte-preserved c = put_next _ _ c.loop-byte-test.true c.loop-byte.invariant c.put.ensures

@@ -1,0 +1,5 @@
+use Rattle.output.proofs.Puts.{put_again}
+use Rattle.output.proofs.Output.put_spaces.Goals as goal
+
+pub loop-preserved : goal.loop-preserved
+loop-preserved c = put_again _ c.loop.invariant c.put.ensures
