@@ -5,8 +5,6 @@
 // A `|` behind them is not looked for.
 #![tactic(auto)]
 
-ghost use Rattle.std.specs.Prelude.{◌≤◌, length};
-
 mod chords;
 mod errors;
 mod print;
@@ -14,7 +12,7 @@ mod songs;
 
 use chords::put_chord;
 use errors::put_errors;
-use lines::Input;
+use lines::Lines;
 use reader::{Answer, Reading};
 use songs::{is_song, show_song};
 use std::env::{Env, FillError};
@@ -43,51 +41,26 @@ fn show<W: Write>(to: &mut W, text: &[u8]) -> io::Result<()> {
     if is_song(text) {
         return show_song(to, text, &mut errs);
     }
-    let r = reader::read(text, &mut errs);
-    put_reading(to, text, r, &errs)
+    let reading = reader::read(text, &mut errs);
+    put_reading(to, text, reading, &errs)
 }
 
-// How many bytes of a line are the card: a carriage return before the newline belongs to the line's end. What is left where no call may
-// follow had no newline.
-fn card_len(line: &[u8], s: Input) -> usize
-    requires { s.len ≤ length line.now }
-    ensures { result ≤ length line.now }
-{
-    let len = s.len;
-    if s.left == 0 {
-        return len;
+// What of a line is the card: a carriage return before the newline belongs to the line's end.
+fn card(line: &[u8], has_newline: bool) -> &[u8] {
+    match line {
+        [text @ .., b'\r'] if has_newline => text,
+        _ => line,
     }
-    if len == 0 {
-        return 0;
-    }
-    if line[len - 1] == b'\r' {
-        return len - 1;
-    }
-    len
 }
 
-// Shows a line that is ready.
-fn show_line<W: Write>(to: &mut W, line: &[u8], s: Input) -> io::Result<()>
-    requires { s.len ≤ length line.now }
-{
-    let len = card_len(line, s);
-    if s.ready {
-        show(to, &line[..len])?;
-    }
-    Ok(())
-}
-
-// Shows every line of the input.
-fn show_lines<R: Read, W: Write>(
-    from: &mut R,
-    to: &mut W,
-    line: &mut [u8],
-    block: &mut [u8],
-) -> io::Result<()> {
-    let mut s = lines::start();
-    while 0 < s.left {
-        s = lines::next(from, block, line, s)?;
-        show_line(to, line, s)?;
+// Shows every line of the input. What is ready where no call may follow had no newline.
+fn show_lines<R: Read, W: Write>(from: &mut R, to: &mut W, lines: &mut Lines) -> io::Result<()> {
+    while 0 < lines.input.left {
+        lines.next(from)?;
+        let has_newline = 0 < lines.input.left;
+        if let Some(line) = lines.ready() {
+            show(to, card(line, has_newline))?;
+        }
     }
     Ok(())
 }
@@ -121,5 +94,6 @@ fn main(rt: HostRuntime) -> io::Result<()> {
     }
     let mut line = [0u8; 4098];
     let mut block = [0u8; 4096];
-    show_lines(&mut rt.stdin(), &mut to, &mut line, &mut block)
+    let mut lines = Lines::new(&mut block, &mut line);
+    show_lines(&mut rt.stdin(), &mut to, &mut lines)
 }
