@@ -27,6 +27,7 @@ impl fmt::Display for Part {
 }
 
 // What an error says: of the whole text, of the intervals that it makes, or of the byte `at`.
+// An enum of its own: the library's has no way back from its numbers, and here every error at a place is alike but for its words.
 #[derive(Clone, Copy)]
 enum Fault {
     Repeated(Part),

@@ -54,6 +54,7 @@ fn card(line: &[u8], has_newline: bool) -> &[u8] {
 }
 
 // Shows every line of the input. What is ready where no call may follow had no newline.
+// Step by step: `answer_all` does not tell whether a line had its newline.
 fn show_lines<R: Read, W: Write>(from: &mut R, to: &mut W, lines: &mut Lines) -> io::Result<()> {
     while 0 < lines.input.left {
         lines.next(from)?;
