@@ -1,140 +1,130 @@
 // The errors of a refused text, in plain words.
-ghost use Rattle.std.specs.Prelude.{◌<◌};
-
-use crate::print::{put, put_name, put_number, put_spaces, put_text};
-use std::io;
+use crate::print::{Interval, Shown};
 use std::io::Write;
+use std::{fmt, io};
 
 // What may stand but once, by its `priority`.
-fn put_priority<W: Write>(to: &mut W, p: u16) -> io::Result<()> {
-    match p {
-        0 => put(to, b"the power chord"),
-        1 => put(to, b"alt"),
-        2 => put(to, b"bass"),
-        3 => put(to, b"minor"),
-        4 => put(to, b"dim7"),
-        5 => put(to, b"dim"),
-        6 => put(to, b"half-diminished"),
-        7 => put(to, b"sus"),
-        8 => put(to, b"maj"),
-        9 => put(to, b"maj7"),
-        12 => put(to, b"aug"),
-        _ => put(to, b"the slash bass"),
+#[derive(Clone, Copy)]
+struct Part(u16);
+
+impl fmt::Display for Part {
+    fn fmt<W: fmt::Write>(&self, f: &mut fmt::Formatter<W>) -> fmt::Result {
+        f.write_str(match self.0 {
+            0 => "the power chord",
+            1 => "alt",
+            2 => "bass",
+            3 => "minor",
+            4 => "dim7",
+            5 => "dim",
+            6 => "half-diminished",
+            7 => "sus",
+            8 => "maj",
+            9 => "maj7",
+            12 => "aug",
+            _ => "the slash bass",
+        })
     }
 }
 
-// An error without a place: of the whole text, or of the intervals that it makes.
-fn put_whole<W: Write>(to: &mut W, kind: u16, a: u16, b: u16, c: u16) -> io::Result<()> {
+// What an error says: of the whole text, of the intervals that it makes, or of the byte `at`.
+// An enum of its own: the library's has no way back from its numbers, and here every error at a place is alike but for its words.
+#[derive(Clone, Copy)]
+enum Fault {
+    Repeated(Part),
+    SameDegree(Interval),
+    NoRoot,
+    InARow(Interval, Interval, Interval),
+    Unknown,
+    Placed { at: usize, words: &'static str },
+}
+
+// The words for an error at a place, by its kind.
+fn words_at(kind: u16) -> &'static str {
     match kind {
-        3 => {
-            put_priority(to, a)?;
-            put(to, b" stands more than once")
-        }
-        4 => {
-            put_name(to, a)?;
-            put(to, b" does not go with an interval of the same degree")
-        }
-        9 => put(to, b"there is no root note"),
-        10 => {
-            put_name(to, a)?;
-            put(to, b", ")?;
-            put_name(to, b)?;
-            put(to, b" and ")?;
-            put_name(to, c)?;
-            put(to, b" are three semitones in a row")
-        }
-        _ => put(to, b"an unknown error"),
+        1 => "this has no meaning in a chord symbol",
+        2 => "a note cannot stand here",
+        5 => "this extension is there already",
+        6 => "this is no extension",
+        7 => "add or omit cannot name this",
+        8 => "a sharp or flat cannot stand here",
+        11 => "add names nothing",
+        12 => "omit names nothing, or what it cannot name",
+        13 => "add cannot name this",
+        14 => "this slash is wrong",
+        15 => "this bracket was not opened",
+        16 => "this bracket is not closed",
+        17 => "there is a bracket inside this one",
+        _ => "this is wrong",
     }
 }
 
-// An error at a place.
-fn put_placed<W: Write>(to: &mut W, kind: u16) -> io::Result<()> {
-    match kind {
-        1 => put(to, b"this has no meaning in a chord symbol"),
-        2 => put(to, b"a note cannot stand here"),
-        5 => put(to, b"this extension is there already"),
-        6 => put(to, b"this is no extension"),
-        7 => put(to, b"add or omit cannot name this"),
-        8 => put(to, b"a sharp or flat cannot stand here"),
-        11 => put(to, b"add names nothing"),
-        12 => put(to, b"omit names nothing, or what it cannot name"),
-        13 => put(to, b"add cannot name this"),
-        14 => put(to, b"this slash is wrong"),
-        15 => put(to, b"this bracket was not opened"),
-        16 => put(to, b"this bracket is not closed"),
-        17 => put(to, b"there is a bracket inside this one"),
-        _ => put(to, b"this is wrong"),
+// An error from the four numbers that it has in a lent list: its kind, and its values.
+impl From<[u16; 4]> for Fault {
+    fn from(numbers: [u16; 4]) -> Self {
+        let [kind, a, b, c] = numbers;
+        match kind {
+            3 => Fault::Repeated(Part(a)),
+            4 => Fault::SameDegree(Interval(a)),
+            9 => Fault::NoRoot,
+            10 => Fault::InARow(Interval(a), Interval(b), Interval(c)),
+            18 => Fault::Unknown,
+            _ => Fault::Placed {
+                at: usize::from(a),
+                words: words_at(kind),
+            },
+        }
     }
 }
 
-fn has_place(kind: u16) -> bool {
-    match kind {
-        3 => false,
-        4 => false,
-        9 => false,
-        10 => false,
-        18 => false,
-        _ => true,
+impl fmt::Display for Fault {
+    fn fmt<W: fmt::Write>(&self, f: &mut fmt::Formatter<W>) -> fmt::Result {
+        match self {
+            Fault::Repeated(part) => write!(f, "{part} stands more than once"),
+            Fault::SameDegree(interval) => write!(
+                f,
+                "{interval} does not go with an interval of the same degree"
+            ),
+            Fault::NoRoot => write!(f, "there is no root note"),
+            Fault::InARow(a, b, c) => write!(f, "{a}, {b} and {c} are three semitones in a row"),
+            Fault::Unknown => write!(f, "an unknown error"),
+            Fault::Placed { words, .. } => write!(f, "{words}"),
+        }
     }
+}
+
+// How many characters of a text end before the byte `at` or at it: what is printed behind as many spaces stands under the character that
+// has this byte, also where it is not its first (the position of a wrong number behind a sign is one past the sign's first byte, which may
+// lie inside the sign).
+fn column(text: &str, at: usize) -> usize {
+    (1..=at).filter(|i| text.is_char_boundary(*i)).count()
 }
 
 // An error without a place is one line; one with a place is two: the text, and a caret under the character that has the position's byte.
-fn put_error<W: Write>(
-    to: &mut W,
-    text: &[u8],
-    kind: u16,
-    a: u16,
-    b: u16,
-    c: u16,
-) -> io::Result<()> {
-    if !has_place(kind) {
-        put(to, b"  ")?;
-        put_whole(to, kind, a, b, c)?;
-        return put(to, b"\n");
+fn put_fault<W: Write>(to: &mut W, text: &str, fault: Fault) -> io::Result<()> {
+    if let Fault::Placed { at, .. } = fault {
+        let spaces = column(text, at);
+        writeln!(to, "  {}", Shown(text))?;
+        return writeln!(to, "  {:spaces$}^ {fault}", "");
     }
-    put(to, b"  ")?;
-    put_text(to, text)?;
-    put(to, b"\n  ")?;
-    put_spaces(to, text, a as usize)?;
-    put(to, b"^ ")?;
-    put_placed(to, kind)?;
-    put(to, b"\n")
+    writeln!(to, "  {fault}")
 }
 
-// The error whose four numbers begin at k.
-fn put_at<W: Write>(to: &mut W, text: &[u8], errs: &[u16], k: usize) -> io::Result<()>
-    requires { k < 262144 }
-{
-    if k + 4 <= errs.len() {
-        put_error(to, text, errs[k], errs[k + 1], errs[k + 2], errs[k + 3])?;
-    }
-    Ok(())
-}
-
-fn put_list<W: Write>(to: &mut W, text: &[u8], errs: &[u16], n: usize) -> io::Result<()>
-    requires { n < 65536 }
-{
-    let mut i = 0;
-    while i < n {
-        put_at(to, text, errs, 4 * i)?;
-        i += 1;
-    }
-    Ok(())
-}
-
+// Prints how many errors a text has, and each of them: four numbers of the list.
 pub(crate) fn put_errors<W: Write>(
     to: &mut W,
-    text: &[u8],
+    text: &str,
     errs: &[u16],
-    n: u16,
+    count: u16,
 ) -> io::Result<()> {
-    put_text(to, text)?;
-    if n == 1 {
-        put(to, b": refused\n")?;
+    let shown = Shown(text);
+    if count == 1 {
+        writeln!(to, "{shown}: refused")?;
     } else {
-        put(to, b": refused, ")?;
-        put_number(to, n as u64)?;
-        put(to, b" errors\n")?;
+        writeln!(to, "{shown}: refused, {count} errors")?;
     }
-    put_list(to, text, errs, n as usize)
+    let (rows, _) = errs.as_chunks();
+    for row in rows.iter().take(usize::from(count)) {
+        put_fault(to, text, Fault::from(*row))?;
+    }
+    Ok(())
 }

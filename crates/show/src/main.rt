@@ -5,44 +5,33 @@
 // A `|` behind them is not looked for.
 #![tactic(auto)]
 
-ghost use Rattle.std.specs.Prelude.{◌≤◌, length};
-
 mod chords;
 mod errors;
 mod print;
 mod songs;
 
+use chords::put_chord;
 use errors::put_errors;
-use lines::Input;
-use print::put;
+use lines::Lines;
 use reader::{Answer, Reading};
 use songs::{is_song, show_song};
 use std::env::{Env, FillError};
 use std::io;
 use std::io::{Read, Write};
 
-fn put_refusal<W: Write>(to: &mut W, text: &[u8], answer: Answer, errs: &[u16]) -> io::Result<()> {
-    match answer {
-        Answer::Accepted => put(to, b"accepted\n"),
-        Answer::ShortList => put(to, b"the list of errors is too short\n"),
-        Answer::LongText => put(to, b"the text has more than 256 bytes\n"),
-        Answer::NotUtf8 => put(to, b"the text is not UTF-8\n"),
-        Answer::Parse(n) => put_errors(to, text, errs, n),
-        Answer::Validation(n) => put_errors(to, text, errs, n),
-    }
-}
-
+// Prints what there is to say of a text that was read.
 pub(crate) fn put_reading<W: Write>(
     to: &mut W,
     text: &[u8],
     reading: Reading,
     errs: &[u16],
 ) -> io::Result<()> {
-    let answer = reading.answer;
-    let chord = reading.chord;
-    match answer {
-        Answer::Accepted => chords::put_chord(to, text, chord),
-        _ => put_refusal(to, text, answer, errs),
+    match (reading.answer, str::from_utf8(text)) {
+        (Answer::ShortList, _) => writeln!(to, "the list of errors is too short"),
+        (Answer::LongText, _) => writeln!(to, "the text has more than 256 bytes"),
+        (Answer::NotUtf8, _) | (_, Err(_)) => writeln!(to, "the text is not UTF-8"),
+        (Answer::Accepted, Ok(text)) => put_chord(to, text, reading.chord),
+        (Answer::Parse(n) | Answer::Validation(n), Ok(text)) => put_errors(to, text, errs, n),
     }
 }
 
@@ -52,51 +41,27 @@ fn show<W: Write>(to: &mut W, text: &[u8]) -> io::Result<()> {
     if is_song(text) {
         return show_song(to, text, &mut errs);
     }
-    let r = reader::read(text, &mut errs);
-    put_reading(to, text, r, &errs)
+    let reading = reader::read(text, &mut errs);
+    put_reading(to, text, reading, &errs)
 }
 
-// How many bytes of a line are the card: a carriage return before the newline belongs to the line's end. What is left where no call may
-// follow had no newline.
-fn card_len(line: &[u8], s: Input) -> usize
-    requires { s.len ≤ length line.now }
-    ensures { result ≤ length line.now }
-{
-    let len = s.len;
-    if s.left == 0 {
-        return len;
+// What of a line is the card: a carriage return before the newline belongs to the line's end.
+fn card(line: &[u8], has_newline: bool) -> &[u8] {
+    match line {
+        [text @ .., b'\r'] if has_newline => text,
+        _ => line,
     }
-    if len == 0 {
-        return 0;
-    }
-    if line[len - 1] == b'\r' {
-        return len - 1;
-    }
-    len
 }
 
-// Shows a line that is ready.
-fn show_line<W: Write>(to: &mut W, line: &[u8], s: Input) -> io::Result<()>
-    requires { s.len ≤ length line.now }
-{
-    let len = card_len(line, s);
-    if s.ready {
-        show(to, &line[..len])?;
-    }
-    Ok(())
-}
-
-// Shows every line of the input.
-fn show_lines<R: Read, W: Write>(
-    from: &mut R,
-    to: &mut W,
-    line: &mut [u8],
-    block: &mut [u8],
-) -> io::Result<()> {
-    let mut s = lines::start();
-    while 0 < s.left {
-        s = lines::next(from, block, line, s)?;
-        show_line(to, line, s)?;
+// Shows every line of the input. What is ready where no call may follow had no newline.
+// Step by step: `answer_all` does not tell whether a line had its newline.
+fn show_lines<R: Read, W: Write>(from: &mut R, to: &mut W, lines: &mut Lines) -> io::Result<()> {
+    while 0 < lines.input.left {
+        lines.next(from)?;
+        let has_newline = 0 < lines.input.left;
+        if let Some(line) = lines.ready() {
+            show(to, card(line, has_newline))?;
+        }
     }
     Ok(())
 }
@@ -130,5 +95,6 @@ fn main(rt: HostRuntime) -> io::Result<()> {
     }
     let mut line = [0u8; 4098];
     let mut block = [0u8; 4096];
-    show_lines(&mut rt.stdin(), &mut to, &mut line, &mut block)
+    let mut lines = Lines::new(&mut block, &mut line);
+    show_lines(&mut rt.stdin(), &mut to, &mut lines)
 }
