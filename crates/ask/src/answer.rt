@@ -1,7 +1,7 @@
 // The answers: numbers with one space between, and spellings. Each begins with its number: 0, or that of a refusal.
 use chord::Chord;
 use intervals::{IntervalList, IntervalSet};
-use note::OptionalNote;
+use note::Note;
 use output::Output;
 use reader::Reading;
 
@@ -69,10 +69,10 @@ pub(crate) fn put_next(out: &mut Output, n: u64) {
 }
 
 // Appends a note's letter and alteration, or -1 and 0 where there is none.
-fn put_note(out: &mut Output, note: OptionalNote) {
+fn put_note(out: &mut Output, note: Option<Note>) {
     match note {
-        OptionalNote::None => out.put_bytes(b" -1 0"),
-        OptionalNote::Some(n) => {
+        None => out.put_bytes(b" -1 0"),
+        Some(n) => {
             put_next(out, u64::from(n.literal.number()));
             put_alteration(out, n.modifier.alteration());
         }

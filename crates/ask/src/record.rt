@@ -35,10 +35,10 @@ fn modifier(alteration: Option<u64>) -> Option<RootModifier> {
 }
 
 // The note of a letter and an alteration, where None is -1; -1 and 0 say that there is no note. Other numbers say nothing.
-fn note(letter: Option<u64>, alteration: Option<u64>) -> Option<OptionalNote> {
+fn note(letter: Option<u64>, alteration: Option<u64>) -> Option<Option<Note>> {
     match (letter, modifier(alteration)?) {
-        (None, RootModifier::Natural) => Some(OptionalNote::None),
-        (Some(n), modifier) if n < 7 => Some(OptionalNote::Some(Note {
+        (None, RootModifier::Natural) => Some(None),
+        (Some(n), modifier) if n < 7 => Some(Some(Note {
             literal: NoteLiteral::from_number(n as u8),
             modifier,
         })),
@@ -48,8 +48,8 @@ fn note(letter: Option<u64>, alteration: Option<u64>) -> Option<OptionalNote> {
 
 // The record of these parts, if all are there.
 fn chord_of(
-    root: Option<OptionalNote>,
-    bass: Option<OptionalNote>,
+    root: Option<Option<Note>>,
+    bass: Option<Option<Note>>,
     normalized: Option<IntervalSet>,
     display: Option<IntervalList>,
 ) -> Option<Chord> {
@@ -69,7 +69,7 @@ fn chord_in(text: &[u8]) -> Option<Chord> {
 
 impl<'a> Words<'a> {
     // Takes the two numbers of a note; None where they say nothing.
-    fn note(&mut self) -> Result<Option<OptionalNote>, Fault> {
+    fn note(&mut self) -> Result<Option<Option<Note>>, Fault> {
         let letter = self.signed()?;
         let alteration = self.signed()?;
         Ok(note(letter, alteration))

@@ -4,7 +4,7 @@
 ghost use Rattle.output.specs.Output.{PutNumber};
 ghost use Rattle.columns.specs.Columns.{PutAll, PutAlteration, PutErrors, PutNote, PutNoteOrNone};
 
-use note::{Note, OptionalNote, RootModifier};
+use note::{Note, RootModifier};
 use output::Output;
 
 // Appends a number.
@@ -34,12 +34,12 @@ pub fn put_note(out: &mut Output, note: Note)
 }
 
 // Appends a note, or -1 and 0 where there is none.
-pub fn put_note_or_none(out: &mut Output, note: OptionalNote)
+pub fn put_note_or_none(out: &mut Output, note: Option<Note>)
     ensures { PutNoteOrNone note out.old.used out.new.used out.old.buffer.now out.new.buffer.now }
 {
     match note {
-        OptionalNote::Some(note) => put_note(out, note),
-        OptionalNote::None => {
+        Some(note) => put_note(out, note),
+        None => {
             put_alteration(out, RootModifier::Flat);
             put(out, 0);
         }

@@ -2,7 +2,7 @@
 use crate::print::{Interval, Shown};
 use chord::Chord;
 use intervals::IntervalSet;
-use note::{Note, NoteLiteral, OptionalNote, RootModifier};
+use note::{Note, NoteLiteral, RootModifier};
 use std::io::Write;
 use std::{fmt, io};
 
@@ -50,13 +50,13 @@ impl fmt::Display for NoteName {
 
 // The slash bass, or that there is none.
 #[derive(Clone, Copy)]
-struct Bass(OptionalNote);
+struct Bass(Option<Note>);
 
 impl fmt::Display for Bass {
     fn fmt<W: fmt::Write>(&self, f: &mut fmt::Formatter<W>) -> fmt::Result {
         match self.0 {
-            OptionalNote::None => write!(f, "none"),
-            OptionalNote::Some(note) => NoteName(note).fmt(f),
+            None => write!(f, "none"),
+            Some(note) => NoteName(note).fmt(f),
         }
     }
 }
@@ -88,7 +88,7 @@ impl Classes {
     // Does a pitch class sound, as a member above the root or as the bass?
     fn sounds(self, class: u8) -> bool {
         (0..23).any(|i| self.set.contains(i) && self.root.member_class(i) == class)
-            || matches!(self.bass, OptionalNote::Some(note) if note.pitch_class() == class)
+            || matches!(self.bass, Some(note) if note.pitch_class() == class)
     }
 }
 
@@ -124,7 +124,7 @@ fn put_rooted<W: Write>(to: &mut W, text: &str, root: Note, chord: Chord) -> io:
 // A blank text is no chord, and has nothing else to show.
 pub(crate) fn put_chord<W: Write>(to: &mut W, text: &str, chord: Chord) -> io::Result<()> {
     match chord.root {
-        OptionalNote::None => writeln!(to, "no chord: the reeds stop"),
-        OptionalNote::Some(root) => put_rooted(to, text, root, chord),
+        None => writeln!(to, "no chord: the reeds stop"),
+        Some(root) => put_rooted(to, text, root, chord),
     }
 }
