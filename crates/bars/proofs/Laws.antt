@@ -6,9 +6,13 @@ use mathlib.Core.Path.{◌≡◌, refl, sym, ap, ◌∙◌}
 use Prim.Native.Nat.{ℕ, suc, ◌+◌, ◌-◌, ◌≤◌, ◌<◌}
 use native.Mathlib.Numerals.{add-one}
 use native.Mathlib.Omega.{arith}
+use Rattle.std.specs.Option.{MatchOption, unwrap_or}
+use Rattle.std.specs.declared.option.Option.{Option}
+use Rattle.std.specs.List.{AllWithin, HoldsAt}
+use Rattle.std.proofs.lemmas.Iterator.{index_from_first}
+use mathlib.Core.Logic.{◌≢◌}
 use lib.Dec.{eqb, ltb}
-use lib.ListN.{length, get_or, take, drop, length-drop}
-use lib.Seq.{drop-cons, drop-length}
+use lib.ListN.{length, take, drop, length-drop}
 use borrow.Author.Tests.{eq-eqb, ne_eqb, ltb-false, ltb-true}
 use Rattle.bars.specs.Bars.{stroke, longest_line, bar, bar_at, bar_end, place_at, stayed}
 use Rattle.bars.specs.declared.Found.TheVariants.{TooLong, End, Bar}
@@ -40,29 +44,15 @@ bar-take (b ∷ l) = turn (eqb b stroke) (bar-take l)
 pub end-within : (line : List ℕ) (p : ℕ) → p ≤ length line → bar_end line p ≤ length line
 end-within line p h = omega (arith, h, bar-short (drop p line), length-drop p line)
 
-module _ (line : List ℕ) (i : ℕ) (h : i < length line) where
-  -- the bar's length, by the test of the byte at i
-  length_at : (t : Bool) → eqb (get_or line i 0) stroke ≡ t
-      → length (bar_at line i) ≡ length (cond t [] (get_or line i 0 ∷ bar_at line (suc i)))
-  unfolding bar
-  length_at t e =
-      ap (λ (l : List ℕ). length (bar l)) (drop-cons line i 0 h)
-      ∙ ap (λ (x : Bool). length (cond x [] (get_or line i 0 ∷ bar_at line (suc i)))) e
-
-  pub end-stroke : get_or line i 0 ≡ stroke → bar_end line i ≡ i
-  end-stroke e = omega (arith, length_at true (eq-eqb (get_or line i 0) stroke e))
-
-  pub end_on : (get_or line i 0 ≡ stroke → ⊥) → bar_end line i ≡ bar_end line (i + 1)
-  end_on e =
-      let next : length (bar_at line (i + 1)) ≡ length (bar_at line (suc i)) = ap (λ (k : ℕ). length (bar_at line k)) (add-one i) in
-      omega (arith, next, length_at false (ne_eqb (get_or line i 0) stroke e))
-
-pub end-last : (line : List ℕ) (i : ℕ) → i ≡ length line → bar_end line i ≡ i
+-- the bar of a line ends at its first `|`, or with the line
+pub first_stroke : (l : List ℕ) (r : Option ℕ)
+    → MatchOption r (AllWithin (λ b. b ≢ stroke) l 0 (length l)) (λ i. (i < length l) × HoldsAt (λ b. b ≡ stroke) l i × AllWithin (λ b. b ≢ stroke) l 0 i)
+    → length (bar l) ≡ unwrap_or r (length l)
 unfolding bar
-end-last line i e =
-    let none : length (bar_at line i) ≡ 0 =
-    ap (λ (k : ℕ). length (bar_at line k)) e ∙ ap (λ (l : List ℕ). length (bar l)) (drop-length line) in
-    omega (arith, none)
+first_stroke =
+    index_from_first (λ l. length (bar l)) (λ b. b ≡ stroke) (λ b. b ≢ stroke) refl
+    (λ b l h. ap (λ (t : Bool). length (cond t [] (b ∷ bar l))) (eq-eqb b stroke h))
+    (λ b l h. ap (λ (t : Bool). length (cond t [] (b ∷ bar l))) (ne_eqb b stroke h) ∙ sym (add-one (length (bar l))))
 
 -- ---- the way to a place: the line is over its limit, the position is past its end, or here is a bar
 

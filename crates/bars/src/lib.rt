@@ -2,7 +2,7 @@
 #![tactic(auto)]
 
 ghost use Rattle.std.specs.Prelude.{◌≡◌, ◌≤◌, length};
-ghost use Rattle.bars.specs.Bars.{bar_end, place_at, stayed};
+ghost use Rattle.bars.specs.Bars.{bar, bar_end, place_at, stayed};
 ghost use Rattle.bars.specs.State.{Part};
 
 pub const STROKE: u8 = b'|';
@@ -17,7 +17,8 @@ pub enum Found {
     Bar,
 }
 
-// What a step finds, where the bar lies (from its first byte to the one behind its last), and where the reader goes.
+// What a step finds, where the bar lies (from its first byte to the one behind its last), and where the reader goes. No Option or Result:
+// the place that the reader goes to is said of every step, also of one without a bar.
 #[derive(Clone, Copy)]
 pub struct Place {
     pub found: Found,
@@ -26,19 +27,22 @@ pub struct Place {
     pub next: usize,
 }
 
+// How long the bar is that a line begins with.
+#[tactic(auto, using(crate::proofs::Laws::first_stroke))]
+fn bar_length(line: &[u8]) -> usize
+    ensures length { result ≡ length (bar line.now) }
+    ensures within { result ≤ length line.now }
+{
+    line.iter().position(|b| *b == STROKE).unwrap_or(line.len())
+}
+
 // Where the bar at a position ends.
 fn bar_end(line: &[u8], at: usize) -> usize
     requires { at ≤ length line.now }
-    ensures { result ≡ bar_end line.now at }
+    ensures place { result ≡ bar_end line.now at }
+    ensures within { result ≤ length line.now }
 {
-    let mut i = at;
-    while i < line.len() {
-        if line[i] == STROKE {
-            return i;
-        }
-        i += 1;
-    }
-    i
+    at + bar_length(&line[at..])
 }
 
 // Nothing of the line, and the reader stays.
@@ -54,6 +58,7 @@ fn stays(found: Found, at: usize) -> Place
 }
 
 // The step at any position of any line.
+#[tactic(auto, unfolding(crate::specs::Bars::place_at))]
 pub fn place_at(line: &[u8], at: usize) -> Place
     ensures { result ≡ place_at line.now at }
 {
@@ -64,12 +69,11 @@ pub fn place_at(line: &[u8], at: usize) -> Place
         return stays(Found::End, at);
     }
     let to = bar_end(line, at);
-    let next = to + 1;
     Place {
         found: Found::Bar,
         from: at,
         to,
-        next,
+        next: to + 1,
     }
 }
 

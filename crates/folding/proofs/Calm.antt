@@ -4,7 +4,7 @@ use mathlib.Core.List.{List, [], ◌∷◌, ◌++◌, append_assoc, append-nil}
 use mathlib.Core.Path.{◌≡◌, refl, sym, ap, ◌∙◌}
 use Prim.Native.Nat.{ℕ, ◌+◌}
 use native.Mathlib.Omega.{arith}
-use Rattle.token.specs.Token.{Token}
+use Rattle.token.specs.declared.Token.{Token}
 use Rattle.folding.specs.Folding.{is, one, count, dim, dim7, maj, maj7, seven, is_maj, maj7_with, concat, join, taken, fold_on, fold7, pre_process}
 use Rattle.folding.proofs.Counts.{both_not, count_snoc, join-none, one-zero}
 

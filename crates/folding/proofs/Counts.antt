@@ -7,7 +7,8 @@ use native.Mathlib.Omega.{arith}
 use lib.Dec.{eqb}
 use lib.ListN.{length, set}
 use borrow.Author.Tests.{eq-eqb, ne_eqb, eqb-true}
-use Rattle.token.specs.Token.{Token, at}
+use Rattle.token.specs.Token.{at}
+use Rattle.token.specs.declared.Token.{Token}
 use Rattle.folding.specs.Folding.{is, one, count, paired, join}
 
 one_le : (b : Bool) → one b ≤ 1
@@ -46,12 +47,6 @@ pub count_snoc : (k : ℕ) (ts : List Token) (t : Token) → count k (ts ++ (t �
 unfolding count
 count_snoc k [] t = omega arith
 count_snoc k (x ∷ ts) t = let h : count k (ts ++ (t ∷ [])) ≡ count k ts + one (is k t) = count_snoc k ts t in omega arith
-
-pub count_set : (k : ℕ) (ts : List Token) (j : ℕ) (t : Token) → j < length ts → count k (set ts j t) + one (is k (at ts j)) ≡ count k ts + one (is k t)
-unfolding count
-count_set k [] j t b = absurd (omega arith)
-count_set k (x ∷ ts) zero t b = omega arith
-count_set k (x ∷ ts) (suc j) t b = let h : count k (set ts j t) + one (is k (at ts j)) ≡ count k ts + one (is k t) = count_set k ts j t (omega arith) in omega arith
 
 pub one-zero : (b : Bool) → one b ≡ 0 → b ≡ false
 one-zero true h = absurd (omega arith)

@@ -5,7 +5,8 @@ use mathlib.Core.List.{List, [], ◌∷◌, ◌++◌}
 use Prim.Native.Nat.{ℕ, ◌+◌, ◌≤◌}
 use native.Mathlib.Omega.{arith}
 use lib.Dec.{eqb}
-use Rattle.token.specs.Token.{Token, Ranged}
+use Rattle.token.specs.Token.{Ranged}
+use Rattle.token.specs.declared.Token.{Token}
 use Rattle.folding.specs.Folding.{is, seven, dim, dim7, maj, maj7, is_maj, maj7_with, concat, count, paired, join, taken, fold_on, fold7, pre_process}
 use Rattle.token.proofs.Ranges.{ranged_append}
 

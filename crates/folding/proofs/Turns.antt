@@ -1,50 +1,50 @@
--- The turns of the folding loop.
-use mathlib.Core.List.{List, ◌∷◌}
-use mathlib.Core.Path.{◌≡◌, refl, sym, ap, ap₂, ◌∙◌}
+-- The turns of the folding loop: those before i are folded, and what is folded onto them is what comes from i on.
+use mathlib.Core.List.{List, [], ◌∷◌}
+use mathlib.Core.Path.{◌≡◌, sym, ap, ap₂, ◌∙◌}
 use Prim.Native.Nat.{ℕ, ◌+◌, ◌<◌, ◌≤◌}
-use native.Mathlib.Numerals.{add-one}
 use native.Mathlib.Omega.{arith}
 use lib.ListN.{length, take, drop}
-use lib.Seq.{slice, slice-cons, slice_empty}
-use Rattle.token.specs.Token.{Token, token, at}
-use Rattle.folding.specs.Folding.{count, fold_on, fold7}
+use Rattle.std.proofs.Common.{drop_of_length-le}
+use Rattle.token.specs.Token.{at}
+use Rattle.token.specs.declared.Token.{Token}
+use Rattle.folding.specs.Folding.{count, seven, fold_on, fold7}
 use Rattle.folding.specs.State.{Counted, Stepped, Turned}
 use Rattle.folding.specs.declared.Out.{Out}
-use Rattle.token.proofs.Parts.{later, slice-later}
+use Rattle.folding.proofs.Places.{next-token}
+use Rattle.token.proofs.Parts.{later}
 
--- what the loop keeps true: R₀ are the tokens at its start, and i of the n are taken
-pub record Folding (m r n : ℕ) (R₀ R : List Token) (o : Out) (i : ℕ) : Type 0 where
+-- what the loop keeps true: R₀ are the tokens at its start
+pub record Folding (m r : ℕ) (R₀ R : List Token) (o : Out) (i : ℕ) : Type 0 where
   pub low : o.at ≤ i
-  pub high : i ≤ n
-  pub same : fold_on m r (take o.at R) (slice i n R) ≡ fold7 m r (take n R₀)
-  pub rest : drop o.at R ≡ drop o.at R₀
+  pub same : fold_on m r (take o.at R) (drop i R) ≡ fold7 m r R₀
   pub counted : Counted m o R
 
-module _ (m r n : ℕ) where
-  pub folding_start : (R : List Token) → Folding m r n R R (record { at = 0; partners = 0; sevens = 0 }) 0
+module _ (m r : ℕ) where
+  pub folding_start : (R : List Token) (o : Out) → (o.at ≡ 0) × ((o.partners ≡ 0) × (o.sevens ≡ 0)) → Folding m r R R o 0
   unfolding count
-  folding_start R =
-      record { low = omega arith; high = omega arith; same = refl; rest = refl; counted = record { partners = refl; sevens = refl } }
+  folding_start R o z =
+      let none : take o.at R ≡ [] = ap (λ (k : ℕ). take k R) z.0 in
+      record {
+        low = omega (arith, z.0);
+        same = ap (λ (l : List Token). fold_on m r l R) none;
+        counted = record { partners = z.1.0 ∙ sym (ap (count m) none); sevens = z.1.1 ∙ sym (ap (count seven) none) };
+      }
 
-  pub folding_step : {R₀ R R' : List Token} {o o' : Out} {i : ℕ} → n ≤ length R → i < n → Folding m r n R₀ R o i → Stepped m r i o o' R R' → Folding m r n R₀ R' o' (i + 1)
+  pub folding_step : {R₀ R R' : List Token} {o o' : Out} {i : ℕ} → i < length R → Folding m r R₀ R o i → Stepped m r i o o' R R' → Folding m r R₀ R' o' (i + 1)
   unfolding fold_on
-  folding_step {R₀} {R} {R'} {o} {o'} {i} b h F S =
-      let d : slice (i + 1) n R' ≡ slice (i + 1) n R = slice-later R' R o'.at (i + 1) n (omega (arith, S.most, F.low)) S.rest in
-      let c : slice i n R ≡ at R i ∷ slice (i + 1) n R = slice-cons i n R (token 0 0 0) h b ∙ ap (λ (k : ℕ). at R i ∷ slice k n R) (sym (add-one i)) in
+  folding_step {R₀} {R} {R'} {o} {o'} {i} h F S =
+      let d : drop (i + 1) R' ≡ drop (i + 1) R = later R' R o'.at (i + 1) (omega (arith, S.most, F.low)) S.rest in
+      let c : drop i R ≡ at R i ∷ drop (i + 1) R = next-token R i h in
       record {
         low = omega (arith, S.most, F.low);
-        high = omega arith;
         same = ap₂ (fold_on m r) S.list d ∙ sym (ap (fold_on m r (take o.at R)) c) ∙ F.same;
-        rest = S.rest ∙ later R R₀ o.at o'.at S.more F.rest;
         counted = S.counted;
       }
 
-  pub folding_end : {R₀ R : List Token} {o : Out} {i : ℕ} → n ≤ i → Folding m r n R₀ R o i → Turned (fold7 m r) n o.at R₀ R
+  pub folding_end : {R₀ R : List Token} {o : Out} {i : ℕ} → length R ≤ i → i ≤ length R₀ → Folding m r R₀ R o i → Turned (fold7 m r) o.at R₀ R
   unfolding fold_on
-  folding_end {R₀} {R} {o} {i} h F =
-      let e : i ≡ n = omega (arith, F.high) in
+  folding_end {R₀} {R} {o} {i} h g F =
       record {
-        list = sym (ap (fold_on m r (take o.at R)) (ap (λ (k : ℕ). slice k n R) e ∙ slice_empty n R)) ∙ F.same;
-        rest = F.rest;
-        fewer = omega (arith, F.low, F.high);
+        list = sym (ap (fold_on m r (take o.at R)) (drop_of_length-le R h)) ∙ F.same;
+        fewer = omega (arith, F.low);
       }

@@ -1,6 +1,7 @@
 -- What folding makes of the lexer's tokens (document 01, the last rule of "From bytes to tokens").
 use Rattle.std.specs.Prelude.{Bool, true, false, ◌&&◌, ◌||◌, cond, List, [], ◌∷◌, ◌++◌, ℕ, ◌+◌, min, eqb}
-use Rattle.token.specs.Token.{Token, token, type_number}
+use Rattle.token.specs.Token.{token, type_number}
+use Rattle.token.specs.declared.Token.{Token}
 use Rattle.token.specs.declared.TokenType.TheVariants.{Dim, Dim7, Extension, Maj, Maj7}
 
 abbrev pub dim : ℕ

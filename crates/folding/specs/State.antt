@@ -1,16 +1,16 @@
 -- Bookkeeping of contracts between our own functions; no promise of an entry point rests on it.
 -- What the code keeps while it folds, and what a step does.
-use Rattle.std.specs.Prelude.{Bool, cond, ◌&&◌, List, ◌∷◌, ◌≡◌, ℕ, ◌+◌, ◌-◌, ◌≤◌, ◌<◌, eqb, ltb, take, drop, get_or, set}
-use Rattle.std.proofs.Math.Seq.{slice}
-use Rattle.token.specs.Token.{Token, at}
+use Rattle.std.specs.Prelude.{Bool, cond, ◌&&◌, List, ◌∷◌, ◌≡◌, ◌≢◌, ℕ, ◌+◌, ◌-◌, ◌≤◌, ◌<◌, eqb, ltb, length, take, drop, set, Option, MatchOption}
+use Rattle.token.specs.Token.{at}
+use Rattle.token.specs.declared.Token.{Token}
 use Rattle.folding.specs.Folding.{count, seven, is_maj, join, taken, concat}
 use Rattle.folding.specs.declared.Out.{Out}
 
--- e is one more than the latest place before `end` that holds k, or 0 where there is none
-pub record Latest (k : ℕ) (ks : List ℕ) (end e : ℕ) : Type 0 where
-  pub within : e ≤ end
-  pub found : 0 < e → get_or ks (e - 1) 0 ≡ k
-  pub after : (j : ℕ) → e ≤ j → j < end → get_or ks j 0 ≡ k → ⊥
+-- r is the latest place that holds a token of kind k, or None where there is none
+abbrev pub Latest : ℕ → List Token → Option ℕ → Type 0
+Latest k ts r =
+    MatchOption r ((j : ℕ) → j < length ts → (at ts j).kind ≢ k)
+    (λ i. (i < length ts) × ((at ts i).kind ≡ k) × ((j : ℕ) → i < j → j < length ts → (at ts j).kind ≢ k))
 
 -- the kind of a pair is neither that of a partner nor 7
 pub record Apart (m r : ℕ) : Type 0 where
@@ -30,15 +30,9 @@ pub record Joined (k r i waiting w e : ℕ) (R R' : List Token) : Type 0 where
   pub came : waiting ≡ 0 → e ≡ w + 1
   pub stayed : 0 < waiting → e ≡ w
 
--- o after a partner, where e tokens are left: it pairs with a 7, or waits for one
-abbrev pub partner_came : Out → ℕ → Out
-partner_came o e = cond (eqb o.sevens 0) (record { at = e; partners = o.partners + 1; sevens = o.sevens })
-    (record { at = e; partners = o.partners; sevens = o.sevens - 1 })
-
--- the same for a 7
-abbrev pub seven_came : Out → ℕ → Out
-seven_came o e = cond (eqb o.partners 0) (record { at = e; partners = o.partners; sevens = o.sevens + 1 })
-    (record { at = e; partners = o.partners - 1; sevens = o.sevens })
+-- how many of its own kind and of the others wait after a token: it pairs with one of the others, or waits for one
+abbrev pub came : ℕ → ℕ → ℕ × ℕ
+came own others = cond (eqb others 0) (own + 1, 0) (own, others - 1)
 
 -- token i was taken: o and the tokens R became o' and R'
 pub record Stepped (m r i : ℕ) (o o' : Out) (R R' : List Token) : Type 0 where
@@ -48,23 +42,22 @@ pub record Stepped (m r i : ℕ) (o o' : Out) (R R' : List Token) : Type 0 where
   pub most : o'.at ≤ o.at + 1
   pub counted : Counted m o' R'
 
--- the first n tokens of R became the first e of R', as f says, and the rest is untouched
-pub record Turned (f : List Token → List Token) (n e : ℕ) (R R' : List Token) : Type 0 where
-  pub list : take e R' ≡ f (take n R)
-  pub rest : drop e R' ≡ drop e R
-  pub fewer : e ≤ n
+-- the tokens R became the first e of R', as f says
+pub record Turned (f : List Token → List Token) (e : ℕ) (R R' : List Token) : Type 0 where
+  pub list : take e R' ≡ f R
+  pub fewer : e ≤ length R
 
--- there is a token after token i, of n, and the two make a Maj7
-abbrev pub joins_at : List ℕ → ℕ → ℕ → Bool
-joins_at ks i n = ((ltb (i + 1) n) && ((is_maj (get_or ks i 0)) && (eqb (get_or ks (i + 1) 0) seven)))
+-- there is a token after token i, and the two make a Maj7
+abbrev pub joins_at : List Token → ℕ → Bool
+joins_at R i = ltb (i + 1) (length R) && (is_maj (at R i).kind && eqb (at R (i + 1)).kind seven)
 
--- place w holds what comes first of the tokens from i to n, and those from e on are still to come
-pub record TookFirst (i n w e : ℕ) (R R' : List Token) : Type 0 where
-  pub list : concat (slice i n R) ≡ at R' w ∷ concat (slice e n R)
+-- place w holds what comes first of the tokens from i on, and those from e on are still to come
+pub record TookFirst (i w e : ℕ) (R R' : List Token) : Type 0 where
+  pub list : concat (drop i R) ≡ at R' w ∷ concat (drop e R)
   pub only : R' ≡ set R w (at R' w)
   pub more : i < e
-  pub most : e ≤ n
+  pub most : e ≤ length R
 
 -- each token is short enough that the sum of two lengths fits
-abbrev pub Short : ℕ → List Token → Type 0
-Short n R = (j : ℕ) → j < n → (at R j).len ≤ 256
+abbrev pub Short : List Token → Type 0
+Short R = (j : ℕ) → j < length R → (at R j).len ≤ 256

@@ -1,238 +1,187 @@
-// Folding of tokens in three lent arrays, in place.
+// Folding of tokens, in place.
 #![tactic(auto)]
 
-ghost use Rattle.std.specs.Prelude.{◌≡◌, ℕ, ◌+◌, ◌^◌, ◌<◌, ◌≤◌, min, length, set, take};
-ghost use Rattle.token.specs.Token.{rows, Room, Untouched, at as token_at};
+ghost use Rattle.std.specs.Prelude.{ℕ, ◌≡◌, ◌+◌, ◌^◌, ◌<◌, ◌≤◌, length, set, take};
+ghost use Rattle.token.specs.Token.{at as token_at};
 ghost use Rattle.folding.specs.Folding.{paired, fold7, count, is_maj, concat, pre_process};
-ghost use Rattle.folding.specs.State.{Latest, Joined, Apart, Counted, partner_came, seven_came, Stepped, Turned, joins_at, TookFirst, Short};
+ghost use Rattle.folding.specs.State.{Latest, Joined, Apart, Counted, came, Stepped, Turned, joins_at, TookFirst, Short};
 
-use token::{DIM, DIM7, MAJ, MAJ7, SEVEN};
+use token::{DIM, DIM7, MAJ, MAJ7, SEVEN, Token};
 
-// How many tokens there are so far, and how many partners and sevens among them are unpaired.
+// How many tokens there are so far, and how many partners and sevens among them are unpaired. They are counted, so that no token is looked
+// for where none waits.
+#[derive(Clone, Copy, Default)]
+struct Out {
+    at: usize,
+    partners: usize,
+    sevens: usize,
+}
+
+// Which tokens fold: a partner and a 7 make a pair.
 #[derive(Clone, Copy)]
-pub struct Out {
-    pub at: usize,
-    pub partners: usize,
-    pub sevens: usize,
+struct Fold {
+    partner: u8,
+    pair: u8,
+    ghost apart: { Apart partner pair },
 }
 
-// One more than the latest place before `end` of kind k; 0 for none.
-fn latest(kinds: &[u8], end: usize, k: u8) -> usize
-    requires { end ≤ length kinds.now }
-    ensures { Latest k kinds.now end result }
-{
-    let mut i = end;
-    while 0 < i {
-        let j = i - 1;
-        if kinds[j] == k {
-            return i;
-        }
-        i = j;
-    }
-    0
-}
+const DIMS: Fold = Fold {
+    partner: DIM,
+    pair: DIM7,
+};
 
-fn smaller(a: u16, b: u16) -> u16
-    ensures { result ≡ min a b }
+const MAJS: Fold = Fold {
+    partner: MAJ,
+    pair: MAJ7,
+};
+
+// The latest place of a token of kind k.
+fn latest(tokens: &[Token], k: u8) -> Option<usize>
+    ensures { Latest k tokens.now result }
 {
-    if a <= b { a } else { b }
+    tokens.iter().rposition(|t| t.kind == k)
 }
 
 // Token i pairs with token j, in the place of j.
-fn pair(kinds: &mut [u8], poss: &mut [u16], lens: &mut [u16], j: usize, i: usize, r: u8)
-    requires { (j ≤ i) × Room (i + 1) kinds.old poss.old lens.old }
-    ensures { let R = rows kinds.old poss.old lens.old in rows kinds.new poss.new
-        lens.new ≡ set R j (paired r (token_at R j) (token_at R i)) }
+fn pair(tokens: &mut [Token], j: usize, i: usize, kind: u8)
+    requires { (j ≤ i) × (i < length tokens.old) }
+    ensures { tokens.new ≡ set tokens.old j (paired kind (token_at tokens.old j) (token_at tokens.old i)) }
 {
-    let p = smaller(poss[j], poss[i]);
-    let l = lens[j];
-    token::put(kinds, poss, lens, j, r, p, l);
+    tokens[j] = Token {
+        kind,
+        pos: tokens[j].pos.min(tokens[i].pos),
+        len: tokens[j].len,
+    };
 }
 
 // Token i pairs with the latest of kind k among the first w, of which `waiting` are of that kind; where there is none, it comes next.
-fn join(
-    kinds: &mut [u8],
-    poss: &mut [u16],
-    lens: &mut [u16],
-    w: usize,
-    i: usize,
-    k: u8,
-    waiting: usize,
-    r: u8,
-) -> usize
-    requires room { (w ≤ i) × Room (i + 1) kinds.old poss.old lens.old }
-    requires waiting_count { waiting ≡ count k (take w (rows kinds.old poss.old lens.old)) }
-    ensures { Joined k r i waiting w result (rows kinds.old poss.old lens.old)
-        (rows kinds.new poss.new lens.new) }
+fn join(tokens: &mut [Token], w: usize, i: usize, k: u8, waiting: usize, r: u8) -> usize
+    requires room { (w ≤ i) × (i < length tokens.old) }
+    requires waiting_count { waiting ≡ count k (take w tokens.old) }
+    ensures { Joined k r i waiting w result tokens.old tokens.new }
 {
-    if waiting == 0 {
-        token::copy(kinds, poss, lens, w, i);
-        return w + 1;
+    if 0 < waiting {
+        if let Some(j) = latest(&tokens[..w], k) {
+            pair(tokens, j, i, r);
+            return w;
+        }
     }
-    let e = latest(kinds, w, k);
-    pair(kinds, poss, lens, e - 1, i, r);
-    w
+    tokens[w] = tokens[i];
+    w + 1
 }
 
-// A partner came, and `at` tokens are left: it pairs with a 7, or waits for one.
-fn partner_came(o: Out, at: usize) -> Out
-    requires { o.partners + 1 < 2 ^ 64 }
-    ensures { result ≡ partner_came o at }
+// A token came, of those of whose kind `own` wait: it pairs with one of the `others`, or waits for one.
+fn came(own: usize, others: usize) -> (usize, usize)
+    requires { own + 1 < 2 ^ 64 }
+    ensures { result ≡ came own others }
 {
-    if o.sevens == 0 {
-        return Out {
-            at,
-            partners: o.partners + 1,
-            sevens: o.sevens,
-        };
-    }
-    Out {
-        at,
-        partners: o.partners,
-        sevens: o.sevens - 1,
-    }
-}
-
-// The same for a 7.
-fn seven_came(o: Out, at: usize) -> Out
-    requires { o.sevens + 1 < 2 ^ 64 }
-    ensures { result ≡ seven_came o at }
-{
-    if o.partners == 0 {
-        return Out {
-            at,
-            partners: o.partners,
-            sevens: o.sevens + 1,
-        };
-    }
-    Out {
-        at,
-        partners: o.partners - 1,
-        sevens: o.sevens,
+    if others == 0 {
+        (own + 1, 0)
+    } else {
+        (own, others - 1)
     }
 }
 
 // Token i is taken.
-fn step(kinds: &mut [u8], poss: &mut [u16], lens: &mut [u16], o: Out, i: usize, m: u8, r: u8) -> Out
-    requires room { (o.at ≤ i) × Room (i + 1) kinds.old poss.old lens.old }
-    requires counted { Counted m o (rows kinds.old poss.old lens.old) × Apart m r }
-    ensures { Stepped m r i o result (rows kinds.old poss.old lens.old)
-        (rows kinds.new poss.new lens.new) }
+fn step(tokens: &mut [Token], fold: Fold, o: Out, i: usize) -> Out
+    requires room { (o.at ≤ i) × (i < length tokens.old) }
+    requires counted { Counted fold.partner o tokens.old }
+    ensures { Stepped fold.partner fold.pair i o result tokens.old tokens.new }
 {
-    let k = kinds[i];
-    let w = o.at;
-    let partners = o.partners;
-    let sevens = o.sevens;
-    if k == m {
-        let e = join(kinds, poss, lens, w, i, SEVEN, sevens, r);
-        return partner_came(o, e);
+    let kind = tokens[i].kind;
+    if kind == fold.partner {
+        let at = join(tokens, o.at, i, SEVEN, o.sevens, fold.pair);
+        let (partners, sevens) = came(o.partners, o.sevens);
+        return Out {
+            at,
+            partners,
+            sevens,
+        };
     }
-    if k == SEVEN {
-        let e = join(kinds, poss, lens, w, i, m, partners, r);
-        return seven_came(o, e);
+    if kind == SEVEN {
+        let at = join(tokens, o.at, i, fold.partner, o.partners, fold.pair);
+        let (sevens, partners) = came(o.sevens, o.partners);
+        return Out {
+            at,
+            partners,
+            sevens,
+        };
     }
-    token::copy(kinds, poss, lens, w, i);
-    Out {
-        at: w + 1,
-        partners,
-        sevens,
-    }
+    tokens[o.at] = tokens[i];
+    Out { at: o.at + 1, ..o }
 }
 
-// Pairs sevens with tokens of kind m among the first n; a pair has kind r.
-fn fold_7(kinds: &mut [u8], poss: &mut [u16], lens: &mut [u16], n: usize, m: u8, r: u8) -> usize
-    requires { Room n kinds.old poss.old lens.old × Apart m r }
-    ensures { Turned (fold7 m r) n result (rows kinds.old poss.old lens.old)
-        (rows kinds.new poss.new lens.new) }
+// Pairs each 7 with a partner; how many tokens are left is returned.
+fn fold_7(tokens: &mut [Token], fold: Fold) -> usize
+    ensures { Turned (fold7 fold.partner fold.pair) result tokens.old tokens.new }
 {
-    let mut o = Out {
-        at: 0,
-        partners: 0,
-        sevens: 0,
-    };
-    let mut i = 0;
-    while i < n {
-        o = step(kinds, poss, lens, o, i, m, r);
-        i += 1;
+    let mut o = Out::default();
+    for i in 0..tokens.len() {
+        o = step(tokens, fold, o, i);
     }
     o.at
 }
 
+// Is this the kind of a Maj, with its 7 or without?
+#[tactic(auto, unfolding(crate::specs::Folding::is_maj))]
 fn is_maj(k: u8) -> bool
     ensures { result ≡ is_maj k }
 {
-    k == MAJ || k == MAJ7
+    matches!(k, MAJ | MAJ7)
 }
 
-// Do token i of n and the one after it make a Maj7?
-fn joins(kinds: &[u8], i: usize, n: usize) -> bool
-    requires { (i < n) × (n ≤ length kinds.now) }
-    ensures { result ≡ joins_at kinds.now i n }
+// Do token i and the one after it make a Maj7?
+fn joins(tokens: &[Token], i: usize) -> bool
+    requires { i < length tokens.now }
+    ensures { result ≡ joins_at tokens.now i }
 {
-    let j = i + 1;
-    if n <= j {
-        return false;
-    }
-    if is_maj(kinds[i]) {
-        kinds[j] == SEVEN
-    } else {
-        false
-    }
+    i + 1 < tokens.len() && is_maj(tokens[i].kind) && tokens[i + 1].kind == SEVEN
 }
 
-// Puts at w what comes first of the tokens from i to n; the place of the next one is returned.
-fn take_one(
-    kinds: &mut [u8],
-    poss: &mut [u16],
-    lens: &mut [u16],
-    w: usize,
-    i: usize,
-    n: usize,
-) -> usize
-    requires room { (w ≤ i) × (i < n) × Room n kinds.old poss.old lens.old }
-    requires short { (j : ℕ) → i ≤ j → j < n → (token_at (rows kinds.old poss.old lens.old) j).len ≤ 256 }
-    ensures { TookFirst i n w result (rows kinds.old poss.old lens.old)
-        (rows kinds.new poss.new lens.new) }
+// Puts at w what comes first of the tokens from i on; the place of the next one is returned.
+fn take_one(tokens: &mut [Token], w: usize, i: usize) -> usize
+    requires room { (w ≤ i) × (i < length tokens.old) }
+    requires short { (j : ℕ) → i ≤ j → j < length tokens.old → (token_at tokens.old j).len ≤ 256 }
+    ensures { TookFirst i w result tokens.old tokens.new }
 {
-    if joins(kinds, i, n) {
-        let p = poss[i];
-        let l = lens[i] + lens[i + 1];
-        token::put(kinds, poss, lens, w, MAJ7, p, l);
+    if joins(tokens, i) {
+        tokens[w] = Token {
+            kind: MAJ7,
+            pos: tokens[i].pos,
+            len: tokens[i].len + tokens[i + 1].len,
+        };
         return i + 2;
     }
-    token::copy(kinds, poss, lens, w, i);
+    tokens[w] = tokens[i];
     i + 1
 }
 
-// Each Maj or Maj7 among the first n takes in a 7 right after it.
-fn concat_maj7(kinds: &mut [u8], poss: &mut [u16], lens: &mut [u16], n: usize) -> usize
-    requires { Room n kinds.old poss.old lens.old × Short n (rows kinds.old poss.old lens.old) }
-    ensures { Turned concat n result (rows kinds.old poss.old lens.old)
-        (rows kinds.new poss.new lens.new) }
+// Each Maj or Maj7 takes in a 7 right after it.
+fn concat_maj7(tokens: &mut [Token]) -> usize
+    requires { Short tokens.old }
+    ensures { Turned concat result tokens.old tokens.new }
 {
+    // A `while`: a turn goes on by one token or by two.
     let mut w = 0;
     let mut i = 0;
-    while i < n {
-        i = take_one(kinds, poss, lens, w, i, n);
+    while i < tokens.len() {
+        i = take_one(tokens, w, i);
         w += 1;
     }
     w
 }
 
-// Makes of the lexer's n tokens those that the parser reads; their number is returned. Without a 7 nothing changes. What lies between the
-// new count and the old one is free; what lies behind the old one is untouched, in each of the three arrays.
-pub fn pre_process(kinds: &mut [u8], poss: &mut [u16], lens: &mut [u16], n: usize) -> usize
-    requires { Room n kinds.old poss.old lens.old × Short n (rows kinds.old poss.old lens.old) }
-    ensures folded { (result ≤ n)
-        × (take result (rows kinds.new poss.new lens.new) ≡ pre_process
-        (take n (rows kinds.old poss.old lens.old))) }
-    ensures untouched { Untouched n kinds.old poss.old lens.old
-        kinds.new poss.new lens.new }
+// Makes of the lexer's tokens those that the parser reads; their number is returned. Without a 7 nothing changes. What lies behind the new
+// count is free.
+pub fn pre_process(tokens: &mut [Token]) -> usize
+    requires { Short tokens.old }
+    ensures fewer { result ≤ length tokens.old }
+    ensures folded { take result tokens.new ≡ pre_process tokens.old }
 {
-    if latest(kinds, n, SEVEN) == 0 {
-        return n;
+    if latest(tokens, SEVEN).is_none() {
+        return tokens.len();
     }
-    let a = concat_maj7(kinds, poss, lens, n);
-    let b = fold_7(kinds, poss, lens, a, DIM, DIM7);
-    fold_7(kinds, poss, lens, b, MAJ, MAJ7)
+    let a = concat_maj7(tokens);
+    let b = fold_7(&mut tokens[..a], DIMS);
+    fold_7(&mut tokens[..b], MAJS)
 }

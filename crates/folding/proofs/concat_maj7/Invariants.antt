@@ -1,12 +1,10 @@
-use mathlib.Core.Path.{◌≡◌}
 use Prim.Native.Nat.{◌-◌}
 use lib.ListN.{length}
-use Rattle.token.specs.Token.{rows}
 use Rattle.folding.proofs.Wholes.{Joining}
 use Rattle.folding.proofs.concat_maj7.Given as goal
 
 abbrev pub invariant-loop-i : goal.invariant-loop-i
-invariant-loop-i l = Joining l.n (rows l.initial.kinds l.initial.poss l.initial.lens) (rows l.kinds l.poss l.lens) l.w l.i × (length l.kinds ≡ length l.initial.kinds) × (length l.poss ≡ length l.initial.poss) × (length l.lens ≡ length l.initial.lens)
+invariant-loop-i l = Joining l.initial.tokens l.tokens l.w l.i
 
 abbrev pub decreases-loop-i : goal.decreases-loop-i
-decreases-loop-i l = l.n - l.i
+decreases-loop-i l = length l.initial.tokens - l.i

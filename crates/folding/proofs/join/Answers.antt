@@ -1,19 +1,17 @@
-use Prim.Native.Nat.{◌+◌, ◌≤◌}
+-- Where one of kind k waits there is a latest one; else the token comes last.
+use mathlib.Core.Path.{refl}
 use native.Mathlib.Omega.{arith}
-use lib.ListN.{length}
-use Rattle.token.specs.Token.{rows}
-use Rattle.folding.proofs.Places.{joined-last, latest_some, joined_latest}
-use Rattle.token.proofs.Rows.{rows-room}
+use Rattle.folding.proofs.Counts.{count_none}
+use Rattle.folding.proofs.Places.{joined-last, joined_pair}
 use Rattle.folding.proofs.join.Goals as goal
+use Rattle.folding.proofs.join.Goals.{then-waiting-gt0+in_default, else-waiting-gt0}
 
-pub returns-then-waiting-eq0 : goal.returns-then-waiting-eq0
-returns-then-waiting-eq0 c =
-    let a = c.args in
-    let h : _ ≤ length (rows a.kinds.now a.poss.now a.lens.now) = rows-room _ _ _ (a.i + 1) c.requires.room.1 in
-    joined-last (omega arith) c.if-waiting-eq0.true c.requires.waiting_count c.copy.ensures
-
-pub overflow_sub-e : goal.overflow_sub-e
-overflow_sub-e c = latest_some _ _ _ _ (omega arith) c.latest-e.ensures c.requires.waiting_count c.if-waiting-eq0.false
+pub returns-in-Some : goal.returns-in-Some
+returns-in-Some c = joined_pair c.in-Some.j c.in-Some.ensures.0 (omega arith) c.if-waiting-gt0.true c.in-Some.ensures.1 c.in-Some.ensures.2 c.pair.ensures
 
 pub returns : goal.returns
-returns c = joined_latest _ _ _ _ (omega arith) c.latest-e.ensures c.requires.waiting_count c.if-waiting-eq0.false c.pair.ensures
+returns c =
+    elim c.if-waiting-gt0.branch [
+      | then-waiting-gt0+in_default w ↦ absurd (omega (arith, count_none c.args.k _ w.in_default.ensures))
+      | else-waiting-gt0 w ↦ joined-last (omega arith) (omega arith) c.requires.waiting_count refl
+    ]

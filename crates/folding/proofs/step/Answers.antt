@@ -1,41 +1,31 @@
 -- By the kind of the token.
--- Assumes nothing.
 use mathlib.Core.List.{List}
-use mathlib.Core.Path.{◌≡◌, sym, ◌∙◌}
-use Prim.Native.Nat.{ℕ, ◌+◌, ◌≤◌}
+use mathlib.Core.Path.{refl}
+use Prim.Native.Nat.{ℕ, ◌≤◌}
 use native.Mathlib.Omega.{arith}
-use lib.ListN.{length, get_or, take}
+use lib.ListN.{length, take}
 use lib.Seq.{length-take-le}
-use Rattle.token.specs.Token.{rows, Room, at}
+use Rattle.token.specs.declared.Token.{Token}
 use Rattle.folding.specs.Folding.{count, seven}
 use Rattle.folding.proofs.Counts.{count_le}
-use Rattle.folding.proofs.Places.{kind_at}
-use Rattle.folding.proofs.Steps.{partner-taken, seven-taken, other_comes}
-use Rattle.token.proofs.Rows.{rows-room}
+use Rattle.folding.proofs.Steps.{partner_taken, seven-taken, other_comes}
 use Rattle.folding.proofs.step.Goals as goal
 
--- a count is no more than the array's length
-few : (ks ps ls : List ℕ) (k w : ℕ) → Room w ks ps ls → count k (take w (rows ks ps ls)) ≤ w
-few ks ps ls k w h =
-    let a : count k (take w (rows ks ps ls)) ≤ length (take w (rows ks ps ls)) = count_le k (take w (rows ks ps ls)) in
-    let b : length (take w (rows ks ps ls)) ≡ w = length-take-le w (rows ks ps ls) (rows-room ks ps ls w h) in
-    omega arith
+-- a count is no more than the number of tokens
+few : (k w : ℕ) (R : List Token) → w ≤ length R → count k (take w R) ≤ w
+few k w R h = omega (arith, count_le k (take w R), length-take-le w R h)
 
-pub partner_came-requires : goal.partner_came-requires
-partner_came-requires c = omega (arith, few c.args.kinds.now c.args.poss.now c.args.lens.now c.args.m c.args.o.at (omega arith))
+pub came-partners-requires : goal.came-partners-requires
+came-partners-requires c = omega (arith, few c.args.fold.partner c.args.o.at c.args.tokens.now (omega arith))
 
-pub returns-then-k-m : goal.returns-then-k-m
-returns-then-k-m c = rw c.partner_came.ensures (partner-taken c.requires.counted.1 c.requires.counted.0 (kind_at _ _ _ _ c.requires.room.1 _ (omega arith) ∙ c.if-k-m.true) c.join-e.ensures)
+pub returns-then-kind-fold : goal.returns-then-kind-fold
+returns-then-kind-fold c = partner_taken c.args.fold.apart c.requires.counted _ c.came-partners.ensures c.if-kind-fold.true c.join-at.ensures
 
-pub seven_came-requires : goal.seven_came-requires
-seven_came-requires c = omega (arith, few c.args.kinds.now c.args.poss.now c.args.lens.now seven c.args.o.at (omega arith))
+pub came-sevens-requires : goal.came-sevens-requires
+came-sevens-requires c = omega (arith, few seven c.args.o.at c.args.tokens.now (omega arith))
 
-pub returns-then-k-eq-SEVEN : goal.returns-then-k-eq-SEVEN
-returns-then-k-eq-SEVEN c = rw c.seven_came.ensures (seven-taken c.requires.counted.1 c.requires.counted.0 (kind_at _ _ _ _ c.requires.room.1 _ (omega arith) ∙ c.if-k-eq-SEVEN.true) c.join-e-then-k-eq-SEVEN.ensures)
+pub returns-then-kind-eq-SEVEN : goal.returns-then-kind-eq-SEVEN
+returns-then-kind-eq-SEVEN c = seven-taken c.args.fold.apart c.requires.counted _ c.came-sevens.ensures c.if-kind-eq-SEVEN.true c.join-at-then-kind-eq-SEVEN.ensures
 
 pub returns : goal.returns
-returns c =
-    let a = c.args in
-    let h : a.i + 1 ≤ length (rows a.kinds.now a.poss.now a.lens.now) = rows-room _ _ _ _ c.requires.room.1 in
-    let k : (at (rows a.kinds.now a.poss.now a.lens.now) a.i).kind ≡ get_or a.kinds.now a.i 0 = kind_at _ _ _ _ c.requires.room.1 a.i (omega arith) in
-    other_comes c.requires.counted.1 c.requires.counted.0 (omega arith) (λ e. c.if-k-m.false (sym k ∙ e)) (λ e. c.if-k-eq-SEVEN.false (sym k ∙ e)) c.copy.ensures
+returns c = other_comes c.args.fold.apart c.requires.counted (omega arith) c.if-kind-fold.false c.if-kind-eq-SEVEN.false refl
