@@ -10,7 +10,7 @@ use intervals::{
     PERFECT_FIFTH,
 };
 
-#[derive(Clone, Copy)]
+#[derive(Clone, Copy, PartialEq, Eq)]
 pub enum BaseForm {
     Major,
     Minor,
@@ -39,22 +39,16 @@ impl BaseForm {
         ensures { result ≡ transition self other }
     {
         if other.priority() <= self.priority() {
-            return self;
+            self
+        } else {
+            other
         }
-        other
     }
 
     pub(crate) fn is_major(self) -> bool
         ensures { result ≡ is_major self }
     {
-        match self {
-            BaseForm::Major => true,
-            BaseForm::Minor => false,
-            BaseForm::Dim => false,
-            BaseForm::HalfDim => false,
-            BaseForm::Dim7 => false,
-            BaseForm::Power => false,
-        }
+        self == BaseForm::Major
     }
 
     // Adds or removes thirds and fifths.
