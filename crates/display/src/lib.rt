@@ -15,25 +15,12 @@ use intervals::{
 fn shown(k: u8, i: u8) -> u8
     ensures { result ≡ shown k i }
 {
-    if k == MINOR_SECOND {
-        if i == FLAT_NINTH {
-            return MINOR_SECOND;
-        }
-        return i;
+    match (k, i) {
+        (MINOR_SECOND, FLAT_NINTH) => MINOR_SECOND,
+        (MAJOR_SECOND, NINTH) => MAJOR_SECOND,
+        (AUGMENTED_FOURTH, SHARP_ELEVENTH) => AUGMENTED_FOURTH,
+        _ => i,
     }
-    if k == MAJOR_SECOND {
-        if i == NINTH {
-            return MAJOR_SECOND;
-        }
-        return i;
-    }
-    if k == AUGMENTED_FOURTH {
-        if i == SHARP_ELEVENTH {
-            return AUGMENTED_FOURTH;
-        }
-        return i;
-    }
-    i
 }
 
 // The j-th of the numbers, where `high` has been moved behind `low`.
@@ -42,15 +29,14 @@ fn moved(low: u8, high: u8, j: u8) -> u8
     ensures { result ≡ moved_at low high j }
 {
     if j <= low {
-        return j;
+        j
+    } else if j == low + 1 {
+        high
+    } else if j <= high {
+        j - 1
+    } else {
+        j
     }
-    if j == low + 1 {
-        return high;
-    }
-    if j <= high {
-        return j - 1;
-    }
-    j
 }
 
 // The j-th of the numbers in the order in which they are shown.
@@ -58,38 +44,30 @@ fn order_at(k: u8, j: u8) -> u8
     requires { j < 23 }
     ensures { (result ≡ get_or (order k) j 0) × (result < 23) }
 {
-    if k == MINOR_SECOND {
-        return moved(1, 16, j);
+    match k {
+        MINOR_SECOND => moved(1, 16, j),
+        MAJOR_SECOND => moved(2, 17, j),
+        AUGMENTED_FOURTH => moved(7, 20, j),
+        _ => j,
     }
-    if k == MAJOR_SECOND {
-        return moved(2, 17, j);
-    }
-    if k == AUGMENTED_FOURTH {
-        return moved(7, 20, j);
-    }
-    j
 }
 
 // The members in the order in which they are shown, each as it is shown.
 fn in_order(k: u8, s: IntervalSet) -> IntervalList
     ensures { (result ≡ list_of (display_of k (members s))) × (listed result ≡ display_of k (members s)) }
 {
-    let mut l = IntervalList {
+    let mut list = IntervalList {
         numbers: [0; 23],
         len: 0,
     };
-    let mut j = 0;
-    while j < 23 {
+    for j in 0..23 {
         let i = order_at(k, j);
-        j += 1;
-        if !s.contains(i) {
-            continue;
+        if s.contains(i) {
+            list.numbers[list.len] = shown(k, i);
+            list.len += 1;
         }
-        let n = l.len;
-        l.numbers[n] = shown(k, i);
-        l.len = n + 1;
     }
-    l
+    list
 }
 
 // The display list of a set, where the first sus is of the interval k; k is any other number where there is none. In each case k is known,

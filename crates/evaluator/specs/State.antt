@@ -1,21 +1,20 @@
 -- Bookkeeping of contracts between our own functions; no promise of an entry point rests on it.
 -- What the code counts on: sound expressions, and what it has seen of them.
-use Rattle.std.specs.Prelude.{◌||◌, List, ◌≡◌, ℕ, ◌<◌, length, get_or}
+use Rattle.std.specs.Prelude.{◌||◌, List, ◌≡◌}
+use Rattle.std.specs.List.{All}
 use Rattle.intervals.specs.Stored.{list_of, listed, members, set_of}
 use Rattle.intervals.specs.Interval.{Set}
-use Rattle.expression.specs.Expression.{exp_of}
+use Rattle.intervals.specs.declared.IntervalSet.{IntervalSet}
 use Rattle.expression.specs.declared.expression.Exp.{Exp}
 use Rattle.expression.specs.Bounds.{Sound}
 use Rattle.display.specs.Display.{display_of, first_sus}
-use Rattle.evaluator.specs.Evaluator.{add_by, alter_by, any, base_form, bass_of, direct, eval_set, ext_at, form_at, is_maj, is_sus4, max_ext, omit_by, seed, slash_bass, fold_left}
+use Rattle.evaluator.specs.Evaluator.{any, base_form, bass_of, direct, eval_set, ext_at, form_at, is_maj, is_sus4, max_ext, seed, slash_bass, fold_left}
 use Rattle.evaluator.specs.declared.evaluator.Descriptor.{Descriptor}
 use Rattle.evaluator.specs.declared.evaluator.Evaluated.{Evaluated}
-use Rattle.evaluator.specs.declared.evaluator.Pass.TheVariants as pass
-use Rattle.evaluator.specs.declared.evaluator.Pass.{Pass}
 
--- every number stands for an expression whose interval is below 23
-abbrev pub Sounds : List ℕ → Type 0
-Sounds xs = (i : ℕ) → i < length xs → Sound (exp_of (get_or xs i 0))
+-- the interval of every expression is below 23
+abbrev pub Sounds : List Exp → Type 0
+Sounds l = All Sound l
 
 -- d is what the expressions l say before the stages
 pub record Described (l : List Exp) (d : Descriptor) : Type 0 where
@@ -43,8 +42,6 @@ pub record Answered (l : List Exp) (r : Evaluated) : Type 0 where
   pub whole : r.set ≡ set_of (eval_set l)
   pub list : r.display ≡ list_of (display_of (first_sus l) (eval_set l))
 
--- what an expression does to the set in one of the three walks over the expressions
-abbrev pub change_by : Pass → Set → Exp → Set
-change_by pass.Alterations = alter_by
-change_by pass.Omits = omit_by
-change_by pass.Adds = add_by
+-- each call of a change of the code's sets, by what it can give, is f of the set
+abbrev pub Changes : (IntervalSet → Exp → IntervalSet → Type 0) → (Set → Exp → Set) → Type 0
+Changes gives f = (s r : IntervalSet) (e : Exp) → gives s e r → members r ≡ f (members s) e

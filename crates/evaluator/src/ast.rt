@@ -2,7 +2,7 @@
 ghost use Rattle.std.specs.Prelude.{◌≡◌};
 ghost use Rattle.intervals.specs.Stored.{members};
 ghost use Rattle.evaluator.specs.declared.ast.BaseForm.TheVariants as form;
-ghost use Rattle.evaluator.specs.Evaluator.{priority, transition, apply_form, is_major, form_of};
+ghost use Rattle.evaluator.specs.Evaluator.{transition, apply_form, is_major, form_of};
 
 use expression::expression::Exp;
 use intervals::{
@@ -10,51 +10,29 @@ use intervals::{
     PERFECT_FIFTH,
 };
 
-#[derive(Clone, Copy)]
+// In the order of the priorities, the lowest first.
+#[derive(Clone, Copy, PartialEq, Eq, PartialOrd, Ord)]
 pub enum BaseForm {
     Major,
+    HalfDim,
     Minor,
     Dim,
-    HalfDim,
     Dim7,
     Power,
 }
 
 impl BaseForm {
-    fn priority(self) -> u8
-        ensures { result ≡ priority self }
-    {
-        match self {
-            BaseForm::Major => 0,
-            BaseForm::Minor => 2,
-            BaseForm::Dim => 3,
-            BaseForm::HalfDim => 1,
-            BaseForm::Dim7 => 4,
-            BaseForm::Power => 5,
-        }
-    }
-
     // The form with the higher priority stays.
     pub(crate) fn transition(self, other: BaseForm) -> BaseForm
         ensures { result ≡ transition self other }
     {
-        if other.priority() <= self.priority() {
-            return self;
-        }
-        other
+        self.max(other)
     }
 
     pub(crate) fn is_major(self) -> bool
         ensures { result ≡ is_major self }
     {
-        match self {
-            BaseForm::Major => true,
-            BaseForm::Minor => false,
-            BaseForm::Dim => false,
-            BaseForm::HalfDim => false,
-            BaseForm::Dim7 => false,
-            BaseForm::Power => false,
-        }
+        self == BaseForm::Major
     }
 
     // Adds or removes thirds and fifths.

@@ -4,7 +4,6 @@ ghost use Rattle.intervals.specs.Interval.{elem};
 ghost use Rattle.intervals.specs.Stored.{members};
 ghost use Rattle.expression.specs.declared.expression.Exp.TheVariants as exp;
 ghost use Rattle.expression.specs.Bounds.{Sound};
-ghost use Rattle.display.specs.Display.{sus_of};
 ghost use Rattle.evaluator.specs.Evaluator.{alterations, direct, is_sus4, is_maj, ext_of, ext_at, bass_of, remove_thirds, apply_sus, alter, alter_by, imply9, imply11, imply7, implied13, implied11, implied9, implied, omit, omit_by, add, add_by, prune6, prune11};
 
 use expression::expression::Exp;
@@ -20,16 +19,11 @@ use note::Note;
 fn insert_direct(s: IntervalSet, interval: u8) -> IntervalSet
     ensures { members result ≡ direct (members s) (exp.Extension interval 0) }
 {
-    if interval == MAJOR_SIXTH {
-        return s.insert(MAJOR_SIXTH);
+    if matches!(interval, MAJOR_SIXTH | MINOR_SIXTH | MINOR_SEVENTH) {
+        s.insert(interval)
+    } else {
+        s
     }
-    if interval == MINOR_SIXTH {
-        return s.insert(MINOR_SIXTH);
-    }
-    if interval == MINOR_SEVENTH {
-        return s.insert(MINOR_SEVENTH);
-    }
-    s
 }
 
 // What an expression does to the set at once.
@@ -48,36 +42,24 @@ pub(crate) fn direct(s: IntervalSet, e: Exp) -> IntervalSet
 pub(crate) fn is_sus4(e: Exp) -> bool
     ensures { result ≡ is_sus4 e }
 {
-    match e {
-        Exp::Sus(interval) => interval == PERFECT_FOURTH,
-        _ => false,
-    }
+    matches!(e, Exp::Sus(PERFECT_FOURTH))
 }
 
 pub(crate) fn is_maj(e: Exp) -> bool
     ensures { result ≡ is_maj e }
 {
-    match e {
-        Exp::Maj => true,
-        Exp::Maj7 => true,
-        _ => false,
-    }
+    matches!(e, Exp::Maj | Exp::Maj7)
 }
 
 // An extension 9, 11 or 13, else 0.
 fn tall(interval: u8) -> u8
     ensures { result ≡ ext_of (exp.Extension interval 0) }
 {
-    if interval == NINTH {
-        return NINTH;
+    if matches!(interval, NINTH | ELEVENTH | THIRTEENTH) {
+        interval
+    } else {
+        0
     }
-    if interval == ELEVENTH {
-        return ELEVENTH;
-    }
-    if interval == THIRTEENTH {
-        return THIRTEENTH;
-    }
-    0
 }
 
 fn ext_of(e: Exp) -> u8
@@ -92,11 +74,7 @@ fn ext_of(e: Exp) -> u8
 pub(crate) fn ext_at(max: u8, e: Exp) -> u8
     ensures { result ≡ ext_at max e }
 {
-    let ext = ext_of(e);
-    if max < ext {
-        return ext;
-    }
-    max
+    max.max(ext_of(e))
 }
 
 pub(crate) fn bass_of(b: Option<Note>, e: Exp) -> Option<Note>
@@ -105,16 +83,6 @@ pub(crate) fn bass_of(b: Option<Note>, e: Exp) -> Option<Note>
     match e {
         Exp::SlashBass(note) => Some(note),
         _ => b,
-    }
-}
-
-// The interval of a sus, and k of any other.
-pub(crate) fn sus_of(e: Exp, k: u8) -> u8
-    ensures { result ≡ sus_of e k }
-{
-    match e {
-        Exp::Sus(interval) => interval,
-        _ => k,
     }
 }
 
@@ -128,9 +96,10 @@ pub(crate) fn apply_sus(s: IntervalSet, sus: bool) -> IntervalSet
     ensures { members result ≡ apply_sus sus (members s) }
 {
     if sus {
-        return remove_thirds(s).insert(PERFECT_FOURTH);
+        remove_thirds(s).insert(PERFECT_FOURTH)
+    } else {
+        s
     }
-    s
 }
 
 // One alteration: an altered fifth takes the place of the fifth.
@@ -138,16 +107,14 @@ fn alter(s: IntervalSet, interval: u8) -> IntervalSet
     requires { interval < 23 }
     ensures { members result ≡ alter (members s) interval }
 {
-    if interval == DIMINISHED_FIFTH {
-        return s.remove_then_add(PERFECT_FIFTH, DIMINISHED_FIFTH);
+    if matches!(
+        interval,
+        DIMINISHED_FIFTH | AUGMENTED_FIFTH | FLAT_THIRTEENTH
+    ) {
+        s.remove_then_add(PERFECT_FIFTH, interval)
+    } else {
+        s.insert(interval)
     }
-    if interval == AUGMENTED_FIFTH {
-        return s.remove_then_add(PERFECT_FIFTH, AUGMENTED_FIFTH);
-    }
-    if interval == FLAT_THIRTEENTH {
-        return s.remove_then_add(PERFECT_FIFTH, FLAT_THIRTEENTH);
-    }
-    s.insert(interval)
 }
 
 // The alterations of alt.
@@ -164,46 +131,29 @@ fn alter_alt(s: IntervalSet) -> IntervalSet
 fn alter_sus(s: IntervalSet, interval: u8) -> IntervalSet
     ensures { members result ≡ alter_by (members s) (exp.Sus interval) }
 {
-    if interval == AUGMENTED_FOURTH {
-        return alter(s, SHARP_ELEVENTH);
+    match interval {
+        AUGMENTED_FOURTH => alter(s, SHARP_ELEVENTH),
+        MINOR_SECOND => alter(s, FLAT_NINTH),
+        MAJOR_SECOND => alter(s, NINTH),
+        _ => s,
     }
-    if interval == MINOR_SECOND {
-        return alter(s, FLAT_NINTH);
-    }
-    if interval == MAJOR_SECOND {
-        return alter(s, NINTH);
-    }
-    s
 }
 
 fn is_alteration(interval: u8) -> bool
     ensures { result ≡ elem interval alterations }
 {
-    if interval == PERFECT_FOURTH {
-        return true;
-    }
-    if interval == AUGMENTED_FOURTH {
-        return true;
-    }
-    if interval == DIMINISHED_FIFTH {
-        return true;
-    }
-    if interval == AUGMENTED_FIFTH {
-        return true;
-    }
-    if interval == FLAT_NINTH {
-        return true;
-    }
-    if interval == SHARP_NINTH {
-        return true;
-    }
-    if interval == SHARP_ELEVENTH {
-        return true;
-    }
-    if interval == FLAT_THIRTEENTH {
-        return true;
-    }
-    interval == MINOR_SEVENTH
+    matches!(
+        interval,
+        PERFECT_FOURTH
+            | AUGMENTED_FOURTH
+            | DIMINISHED_FIFTH
+            | AUGMENTED_FIFTH
+            | FLAT_NINTH
+            | SHARP_NINTH
+            | SHARP_ELEVENTH
+            | FLAT_THIRTEENTH
+            | MINOR_SEVENTH
+    )
 }
 
 fn alter_extension(s: IntervalSet, interval: u8) -> IntervalSet
@@ -211,9 +161,10 @@ fn alter_extension(s: IntervalSet, interval: u8) -> IntervalSet
     ensures { members result ≡ alter_by (members s) (exp.Extension interval 0) }
 {
     if is_alteration(interval) {
-        return alter(s, interval);
+        alter(s, interval)
+    } else {
+        s
     }
-    s
 }
 
 pub(crate) fn alter_by(s: IntervalSet, e: Exp) -> IntervalSet
@@ -233,13 +184,11 @@ pub(crate) fn alter_by(s: IntervalSet, e: Exp) -> IntervalSet
 fn imply9(s: IntervalSet) -> IntervalSet
     ensures { members result ≡ imply9 (members s) }
 {
-    if s.contains(FLAT_NINTH) {
-        return s;
+    if s.contains(FLAT_NINTH) || s.contains(SHARP_NINTH) {
+        s
+    } else {
+        s.insert(NINTH)
     }
-    if s.contains(SHARP_NINTH) {
-        return s;
-    }
-    s.insert(NINTH)
 }
 
 // An eleventh, unless the sharp one is there.
@@ -247,9 +196,10 @@ fn imply11(s: IntervalSet) -> IntervalSet
     ensures { members result ≡ imply11 (members s) }
 {
     if s.contains(SHARP_ELEVENTH) {
-        return s;
+        s
+    } else {
+        s.insert(ELEVENTH)
     }
-    s.insert(ELEVENTH)
 }
 
 // The major seventh with Maj, else the minor one, unless the diminished one is there.
@@ -257,72 +207,66 @@ fn imply7(s: IntervalSet, maj: bool) -> IntervalSet
     ensures { members result ≡ imply7 maj (members s) }
 {
     if maj {
-        return s.insert(MAJOR_SEVENTH);
+        s.insert(MAJOR_SEVENTH)
+    } else if s.contains(DIMINISHED_SEVENTH) {
+        s
+    } else {
+        s.insert(MINOR_SEVENTH)
     }
-    if s.contains(DIMINISHED_SEVENTH) {
-        return s;
-    }
-    s.insert(MINOR_SEVENTH)
 }
 
 fn implied13(s: IntervalSet, major: bool) -> IntervalSet
     ensures { members result ≡ implied13 major (members s) }
 {
     if major {
-        return s.insert(THIRTEENTH);
+        s.insert(THIRTEENTH)
+    } else {
+        imply11(s.insert(THIRTEENTH))
     }
-    imply11(s.insert(THIRTEENTH))
 }
 
 fn implied11(s: IntervalSet, major: bool) -> IntervalSet
     ensures { members result ≡ implied11 major (members s) }
 {
     if major {
-        return s.remove_then_add(MAJOR_THIRD, PERFECT_FOURTH);
+        s.remove_then_add(MAJOR_THIRD, PERFECT_FOURTH)
+    } else {
+        s.insert(ELEVENTH)
     }
-    s.insert(ELEVENTH)
 }
 
 fn implied9(s: IntervalSet, maj: bool) -> IntervalSet
     ensures { members result ≡ implied9 maj (members s) }
 {
-    if s.contains(MAJOR_SIXTH) {
-        return s.insert(NINTH);
+    if s.contains(MAJOR_SIXTH) || s.contains(MINOR_SIXTH) {
+        s.insert(NINTH)
+    } else {
+        imply7(s.insert(NINTH), maj)
     }
-    if s.contains(MINOR_SIXTH) {
-        return s.insert(NINTH);
-    }
-    imply7(s.insert(NINTH), maj)
 }
 
 pub(crate) fn implied(s: IntervalSet, ext: u8, major: bool, maj: bool) -> IntervalSet
     ensures { members result ≡ implied ext major maj (members s) }
 {
-    if ext == THIRTEENTH {
-        return imply7(imply9(implied13(s, major)), maj);
+    match ext {
+        THIRTEENTH => imply7(imply9(implied13(s, major)), maj),
+        ELEVENTH => imply7(imply9(implied11(s, major)), maj),
+        NINTH => implied9(s, maj),
+        _ => s,
     }
-    if ext == ELEVENTH {
-        return imply7(imply9(implied11(s, major)), maj);
-    }
-    if ext == NINTH {
-        return implied9(s, maj);
-    }
-    s
 }
 
 fn omit(s: IntervalSet, interval: u8) -> IntervalSet
     ensures { members result ≡ omit (members s) interval }
 {
-    if interval == PERFECT_FIFTH {
-        return s
+    match interval {
+        PERFECT_FIFTH => s
             .remove(PERFECT_FIFTH)
             .remove(AUGMENTED_FIFTH)
-            .remove(DIMINISHED_FIFTH);
+            .remove(DIMINISHED_FIFTH),
+        MAJOR_THIRD => remove_thirds(s),
+        _ => s,
     }
-    if interval == MAJOR_THIRD {
-        return remove_thirds(s);
-    }
-    s
 }
 
 pub(crate) fn omit_by(s: IntervalSet, e: Exp) -> IntervalSet
@@ -341,9 +285,10 @@ fn add(s: IntervalSet, interval: u8) -> IntervalSet
     ensures { members result ≡ add (members s) interval }
 {
     if interval == FLAT_THIRTEENTH {
-        return s.remove(PERFECT_FIFTH).insert(FLAT_THIRTEENTH);
+        s.remove(PERFECT_FIFTH).insert(FLAT_THIRTEENTH)
+    } else {
+        s.insert(interval)
     }
-    s.insert(interval)
 }
 
 pub(crate) fn add_by(s: IntervalSet, e: Exp) -> IntervalSet
@@ -361,22 +306,21 @@ fn prune6(s: IntervalSet) -> IntervalSet
     ensures { members result ≡ prune6 (members s) }
 {
     if s.contains(MAJOR_SIXTH) {
-        return s.remove(THIRTEENTH);
+        s.remove(THIRTEENTH)
+    } else {
+        s
     }
-    s
 }
 
 // An eleventh over a major third is a fourth.
 fn prune11(s: IntervalSet) -> IntervalSet
     ensures { members result ≡ prune11 (members s) }
 {
-    if s.contains(MAJOR_THIRD) {
-        if s.contains(ELEVENTH) {
-            return s.remove_then_add(ELEVENTH, PERFECT_FOURTH);
-        }
-        return s;
+    if s.contains(MAJOR_THIRD) && s.contains(ELEVENTH) {
+        s.remove_then_add(ELEVENTH, PERFECT_FOURTH)
+    } else {
+        s
     }
-    s
 }
 
 pub(crate) fn prune(s: IntervalSet) -> IntervalSet

@@ -57,8 +57,5 @@ module _ (f : Four) (e : f.root ≡ None) (w : Narrow f.normalized) where
   rootless-says h = nothing-says (subst T (sym h ∙ rootless) tt)
 
 -- an answer that is true exactly of no chord
-pub no_chord_test : (r : Bool) (f : Four) → not (is_some f.root) ≡ true → Narrow f.normalized → (r ≡ true) ↔ (f ≡ no_chord)
-    → r ≡ realizable f
-no_chord_test r f e w t =
-    let none = no_note f.root (subst T (sym e) tt) in
-    same_answer r (realizable f) (λ h. no_chord-realizable f (t.0 h)) (λ h. t.1 (rootless-says f none w h))
+pub no_chord_test : (r : Bool) (f : Four) → f.root ≡ None → Narrow f.normalized → (r ≡ true) ↔ (f ≡ no_chord) → r ≡ realizable f
+no_chord_test r f none w t = same_answer r (realizable f) (λ h. no_chord-realizable f (t.0 h)) (λ h. t.1 (rootless-says f none w h))

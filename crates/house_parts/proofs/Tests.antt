@@ -1,19 +1,20 @@
--- Tests on lists and numbers, as the code makes them: equal lists, one step along a list, and a number at which a `match` has no arm.
+-- Tests on lists, as the code makes them: equal lists, a number of a list, and clauses that all hold.
 -- Assumes nothing.
 use mathlib.Core.Bool.{Bool, true, false, ◌&&◌, ◌||◌}
 use mathlib.Core.List.{List, [], ◌∷◌}
 use mathlib.Core.Logic.{◌↔◌}
 use mathlib.Core.Path.{◌≡◌, refl, sym, ap, ap₂, subst, ◌∙◌}
-use Prim.Native.Nat.{ℕ, zero, suc, ◌+◌, ◌≤◌, ◌<◌}
+use Prim.Native.Nat.{ℕ, zero, suc, ◌+◌, ◌<◌}
 use native.Mathlib.Omega.{arith}
 use lib.Dec.{T, eqb, eqb_refl, eqb→eq}
-use lib.ListN.{length, drop, drop_of_length-le, get_or}
-use lib.Seq.{drop-cons}
-use borrow.Author.Tests.{eq-eqb, eqb-false, ne_eqb}
+use lib.ListN.{length, get_or}
+use Rattle.std.proofs.lemmas.Bool.Decides.{nat_tests}
+use Rattle.std.specs.Bool.{MatchBool}
+use Rattle.std.specs.List.{AllWithin, HoldsAt, list_any, range_with_len}
+use Rattle.std.proofs.lemmas.List.FromFn.{get_or-range_with_len, length-range_with_len}
 use Rattle.intervals.specs.Interval.{elem}
 use Rattle.house_parts.specs.Question.{all, same_list}
 use Rattle.house_parts.proofs.Bools.{and_left, and_right, both_pass}
-use Rattle.validator.proofs.Choices.{Away, not-elem}
 
 -- two tests that pass together
 pub same_answer : (a b : Bool) → (a ≡ true → b ≡ true) → (b ≡ true → a ≡ true) → a ≡ b
@@ -45,56 +46,36 @@ same_test r l m f =
     let same : l ≡ m → T (same_list l m) = λ e. subst (λ (x : List ℕ). T (same_list l x)) e (same_self l) in
     same_answer r (same_list l m) (λ e. passed (same_list l m) (same (f.0 e))) (λ e. f.1 (same_lists l m (subst T (sym e) tt)))
 
--- ---- one step along a list
+-- ---- a number of a list, and clauses that all hold
 
-step : (i : ℕ) → suc i ≡ i + 1
-step i = omega arith
+flip : (x y : ℕ) → eqb y x ≡ eqb x y
+flip x y = grind (arith, nat_tests)
 
-module _ (x : ℕ) (l : List ℕ) (i : ℕ) where
-  elem_next : i < length l → elem x (drop i l) ≡ eqb x (get_or l i 0) || elem x (drop (i + 1) l)
-  elem_next h = ap (elem x) (drop-cons l i 0 h) ∙ ap (λ (j : ℕ). eqb x (get_or l i 0) || elem x (drop j l)) (step i)
+pub elem_any : (x : ℕ) (l : List ℕ) → list_any (λ y. eqb y x) l ≡ elem x l
+elem_any x [] = refl
+elem_any x (y ∷ l) = ap₂ ◌||◌ (flip x y) (elem_any x l)
 
-  pub elem_here : i < length l → get_or l i 0 ≡ x → elem x (drop i l) ≡ true
-  elem_here h e = elem_next h ∙ ap (λ (t : Bool). t || elem x (drop (i + 1) l)) (eq-eqb x (get_or l i 0) (sym e))
+all-hold : (l : List Bool) → ((k : ℕ) → k < length l → get_or l k true ≡ true) → all l ≡ true
+all-hold [] h = refl
+all-hold (b ∷ l) h = ap₂ ◌&&◌ (h 0 (omega arith)) (all-hold l (λ k i. h (suc k) (omega arith)))
 
-  pub elem_past : i < length l → (get_or l i 0 ≡ x → ⊥) → elem x (drop i l) ≡ elem x (drop (i + 1) l)
-  elem_past h n = elem_next h ∙ ap (λ (t : Bool). t || elem x (drop (i + 1) l)) (ne_eqb x (get_or l i 0) (λ e. n (sym e)))
+one_fails : (l : List Bool) (k : ℕ) → k < length l → get_or l k true ≡ false → all l ≡ false
+one_fails [] k i e = absurd (omega arith)
+one_fails (b ∷ l) zero i e = ap (λ (t : Bool). t && all l) e
+one_fails (true ∷ l) (suc k) i e = one_fails l k (omega arith) e
+one_fails (false ∷ l) (suc k) i e = refl
 
-  pub elem_end : length l ≤ i → elem x (drop i l) ≡ false
-  elem_end h = ap (elem x) (drop_of_length-le l h)
+-- an answer that is whether each of the n clauses of l, by their places, holds
+module _ (l : List Bool) (n : ℕ) (e : length l ≡ n) where
+  place : (k : ℕ) → k < n → get_or (range_with_len 0 n) k 0 ≡ k
+  place k i = let z : 0 + k ≡ k = omega arith in get_or-range_with_len 0 n k 0 i ∙ z
 
-module _ (l : List Bool) (i : ℕ) where
-  all-next : i < length l → all (drop i l) ≡ get_or l i true && all (drop (i + 1) l)
-  all-next h = ap all (drop-cons l i true h) ∙ ap (λ (j : ℕ). get_or l i true && all (drop j l)) (step i)
-
-  pub all_fails : i < length l → get_or l i true ≡ false → all (drop i l) ≡ false
-  all_fails h e = all-next h ∙ ap (λ (t : Bool). t && all (drop (i + 1) l)) e
-
-  pub all_past : i < length l → get_or l i true ≡ true → all (drop i l) ≡ all (drop (i + 1) l)
-  all_past h e = all-next h ∙ ap (λ (t : Bool). t && all (drop (i + 1) l)) e
-
-  pub all_end : length l ≤ i → all (drop i l) ≡ true
-  all_end h = ap all (drop_of_length-le l h)
-
--- ---- a number below k, where the arms of a `match` are all of these
-
-abbrev up_to : ℕ → (ℕ → Bool) → Bool
-up_to zero p = true
-up_to (suc k) p = p k && up_to k p
-
-less : (i k : ℕ) → i < suc k → (i ≡ k → ⊥) → i < k
-less zero zero h n = absurd (n refl)
-less zero (suc k) h n = omega arith
-less (suc i) zero h n = absurd (omega (arith, h))
-less (suc i) (suc k) h n = let r = less i k (omega (arith, h)) (λ e. n (ap suc e)) in omega (arith, r)
-
-below : (k : ℕ) (p : ℕ → Bool) → T (up_to k p) → (i : ℕ) → i < k → T (p i)
-below zero p t i h = absurd (omega (arith, h))
-below (suc k) p t i h = by (eqb i k) refl (λ e. below k p (and_right (p k) (up_to k p) t) i (less i k h (eqb-false i k e)))
-  where
-    by : (b : Bool) → eqb i k ≡ b → (eqb i k ≡ false → T (p i)) → T (p i)
-    by true e f = subst (λ (j : ℕ). T (p j)) (sym (eqb→eq i k (subst T (sym e) tt))) (and_left (p k) (up_to k p) t)
-    by false e f = f e
-
-pub no_arm : (n k : ℕ) (ks : List ℕ) → T (up_to k (λ k. elem k ks)) → n < k → Away n Unit ks → {X : Type 0} → X
-no_arm n k ks t h a = absurd (subst T (sym (not-elem n ks a)) (below k (λ k. elem k ks) t n h))
+  pub all_test : (r : Bool) → MatchBool r (AllWithin (λ k. get_or l k true ≡ true) (range_with_len 0 n) 0 (length (range_with_len 0 n)))
+      ((k : ℕ) × (k < length (range_with_len 0 n)) × HoldsAt (λ k. get_or l k true ≡ false) (range_with_len 0 n) k) → r ≡ all l
+  all_test true h =
+      let m = length-range_with_len 0 n in
+      sym (all-hold l (λ k i. subst (λ (j : ℕ). get_or l j true ≡ true) (place k (omega arith)) (h k 0 (omega arith) (omega arith))))
+  all_test false h =
+      let m = length-range_with_len 0 n in
+      let i : h.0 < n = omega (arith, h.1, m) in
+      sym (one_fails l h.0 (omega arith) (subst (λ (j : ℕ). get_or l j true ≡ false) (place h.0 i) (h.2 0)))

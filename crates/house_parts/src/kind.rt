@@ -9,8 +9,8 @@ use intervals::{
     SHARP_ELEVENTH,
 };
 
-// b2 for b9, 2 for 9, #4 for #11, or none.
-#[derive(Clone, Copy)]
+// b2 for b9, 2 for 9, #4 for #11, or none. No `Option`: the definitions of the spelling speak of one of four, each with its interval.
+#[derive(Clone, Copy, PartialEq, Eq)]
 pub enum SusKind {
     Plain,
     Flat2,
@@ -22,45 +22,25 @@ impl SusKind {
     pub(crate) fn is_flat2(self) -> bool
         ensures { result ≡ is_flat2 self }
     {
-        match self {
-            SusKind::Plain => false,
-            SusKind::Flat2 => true,
-            SusKind::Second => false,
-            SusKind::Sharp4 => false,
-        }
+        self == SusKind::Flat2
     }
 
     pub(crate) fn is_second(self) -> bool
         ensures { result ≡ is_second self }
     {
-        match self {
-            SusKind::Plain => false,
-            SusKind::Flat2 => false,
-            SusKind::Second => true,
-            SusKind::Sharp4 => false,
-        }
+        self == SusKind::Second
     }
 
     pub(crate) fn is_sharp4(self) -> bool
         ensures { result ≡ is_sharp4 self }
     {
-        match self {
-            SusKind::Plain => false,
-            SusKind::Flat2 => false,
-            SusKind::Second => false,
-            SusKind::Sharp4 => true,
-        }
+        self == SusKind::Sharp4
     }
 
     pub(crate) fn is_sus(self) -> bool
         ensures { result ≡ is_sus self }
     {
-        match self {
-            SusKind::Plain => false,
-            SusKind::Flat2 => true,
-            SusKind::Second => true,
-            SusKind::Sharp4 => true,
-        }
+        self != SusKind::Plain
     }
 
     // The interval that is shown; 0 for none.
@@ -79,15 +59,7 @@ impl SusKind {
 fn shows(list: IntervalList, interval: u8) -> bool
     ensures { result ≡ elem interval (listed list) }
 {
-    let n = list.count();
-    let mut i = 0;
-    while i < n {
-        if list.numbers[i] == interval {
-            return true;
-        }
-        i += 1;
-    }
-    false
+    list.as_slice().contains(&interval)
 }
 
 // Is a member absent from the display list?
@@ -95,10 +67,7 @@ fn is_hidden(set: IntervalSet, list: IntervalList, interval: u8) -> bool
     requires { interval < 23 }
     ensures { result ≡ (members set interval && not (elem interval (listed list))) }
 {
-    if set.contains(interval) {
-        return !shows(list, interval);
-    }
-    false
+    set.contains(interval) && !shows(list, interval)
 }
 
 // The K of a set and a display list, whatever they are.

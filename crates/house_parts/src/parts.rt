@@ -16,10 +16,7 @@ pub(crate) fn both(set: IntervalSet, a: u8, b: u8) -> bool
     requires { (a < 23) × (b < 23) }
     ensures { result ≡ (members set a && members set b) }
 {
-    if set.contains(a) {
-        return set.contains(b);
-    }
-    false
+    set.contains(a) && set.contains(b)
 }
 
 // Is it a member, where b is not so?
@@ -27,63 +24,40 @@ fn but(set: IntervalSet, interval: u8, b: bool) -> bool
     requires { interval < 23 }
     ensures { result ≡ (members set interval && not b) }
 {
-    if set.contains(interval) {
-        return !b;
-    }
-    false
+    set.contains(interval) && !b
 }
 
 // No third, or both 3 and bb7.
 fn lacks_third(set: IntervalSet) -> bool
     ensures { result ≡ (not (members set 3) && not (members set 4) || members set 4 && members set 12) }
 {
-    if set.contains(MINOR_THIRD) {
-        return both(set, MAJOR_THIRD, DIMINISHED_SEVENTH);
-    }
     if set.contains(MAJOR_THIRD) {
-        return set.contains(DIMINISHED_SEVENTH);
+        set.contains(DIMINISHED_SEVENTH)
+    } else {
+        !set.contains(MINOR_THIRD)
     }
-    true
 }
 
 fn is_omit3(set: IntervalSet, k: SusKind) -> bool
     ensures { result ≡ omit3 (members set) k }
 {
-    if k.is_sus() {
-        return false;
-    }
-    lacks_third(set)
+    !k.is_sus() && lacks_third(set)
 }
 
 fn is_omit5(set: IntervalSet) -> bool
     ensures { result ≡ omit5 (members set) }
 {
-    if set.contains(PERFECT_FIFTH) {
-        return false;
-    }
-    if set.contains(DIMINISHED_FIFTH) {
-        return false;
-    }
-    if set.contains(AUGMENTED_FIFTH) {
-        return false;
-    }
-    if set.contains(FLAT_THIRTEENTH) {
-        return set.contains(DIMINISHED_SEVENTH);
-    }
-    true
+    !set.contains(PERFECT_FIFTH)
+        && !set.contains(DIMINISHED_FIFTH)
+        && !set.contains(AUGMENTED_FIFTH)
+        && (!set.contains(FLAT_THIRTEENTH) || set.contains(DIMINISHED_SEVENTH))
 }
 
 // 3, only with K or bb7.
 fn is_add3(set: IntervalSet, k: SusKind) -> bool
     ensures { result ≡ (members set 4 && (is_sus k || members set 12)) }
 {
-    if !set.contains(MAJOR_THIRD) {
-        return false;
-    }
-    if k.is_sus() {
-        return true;
-    }
-    set.contains(DIMINISHED_SEVENTH)
+    set.contains(MAJOR_THIRD) && (k.is_sus() || set.contains(DIMINISHED_SEVENTH))
 }
 
 // Is the i-th part named? The last, the bass, is not asked for here.

@@ -3,8 +3,8 @@
 ghost use Rattle.std.specs.Prelude.{true, ◌≡◌, ◌<◌, get_or};
 ghost use Rattle.chord.specs.Chord.{four_of};
 ghost use Rattle.intervals.specs.Stored.{members, listed};
-ghost use Rattle.house_parts.specs.House.{display_by, is_some};
-ghost use Rattle.house_parts.specs.Question.{◌⇒◌, all, clauses, realizable, realizable_by, same_list};
+ghost use Rattle.house_parts.specs.House.{display_by};
+ghost use Rattle.house_parts.specs.Question.{all, clauses, realizable, realizable_by, same_list};
 
 use crate::kind::{SusKind, kind_in};
 use crate::parts::both;
@@ -14,17 +14,6 @@ use intervals::{
     FLAT_THIRTEENTH, IntervalList, IntervalSet, MAJOR_SIXTH, MAJOR_THIRD, MINOR_SECOND,
     MINOR_THIRD, NINTH, OCTAVE, PERFECT_FIFTH, SHARP_ELEVENTH, THIRTEENTH, UNISON,
 };
-use note::Note;
-
-// If a then b.
-fn implies(a: bool, b: bool) -> bool
-    ensures { result ≡ (a ⇒ b) }
-{
-    if a {
-        return b;
-    }
-    true
-}
 
 // The i-th clause.
 fn clause_at(set: IntervalSet, k: SusKind, i: usize) -> bool
@@ -40,16 +29,13 @@ fn clause_at(set: IntervalSet, k: SusKind, i: usize) -> bool
         5 => !both(set, PERFECT_FIFTH, AUGMENTED_FIFTH),
         6 => !both(set, PERFECT_FIFTH, FLAT_THIRTEENTH),
         7 => !both(set, PERFECT_FIFTH, DIMINISHED_SEVENTH),
-        8 => implies(
-            both(set, DIMINISHED_SEVENTH, AUGMENTED_FIFTH),
-            set.contains(DIMINISHED_FIFTH),
-        ),
+        8 => !both(set, DIMINISHED_SEVENTH, AUGMENTED_FIFTH) || set.contains(DIMINISHED_FIFTH),
         9 => !both(set, MAJOR_SIXTH, THIRTEENTH),
         10 => !both(set, MAJOR_THIRD, ELEVENTH),
-        11 => implies(k.is_sus(), !set.contains(MINOR_THIRD)),
-        12 => implies(k.is_flat2(), set.contains(FLAT_NINTH)),
-        13 => implies(k.is_second(), set.contains(NINTH)),
-        14 => implies(k.is_sharp4(), set.contains(SHARP_ELEVENTH)),
+        11 => !k.is_sus() || !set.contains(MINOR_THIRD),
+        12 => !k.is_flat2() || set.contains(FLAT_NINTH),
+        13 => !k.is_second() || set.contains(NINTH),
+        14 => !k.is_sharp4() || set.contains(SHARP_ELEVENTH),
         _ => true,
     }
 }
@@ -57,14 +43,7 @@ fn clause_at(set: IntervalSet, k: SusKind, i: usize) -> bool
 fn has_clauses(set: IntervalSet, k: SusKind) -> bool
     ensures { result ≡ all (clauses (members set) k) }
 {
-    let mut i = 0;
-    while i < 15 {
-        if !clause_at(set, k, i) {
-            return false;
-        }
-        i += 1;
-    }
-    true
+    (0..15).all(|i| clause_at(set, k, i))
 }
 
 // Is the list the one that the set and K give?
@@ -77,36 +56,20 @@ fn is_display(list: IntervalList, set: IntervalSet, k: SusKind) -> bool
 fn is_realizable_by(k: SusKind, set: IntervalSet, list: IntervalList) -> bool
     ensures { result ≡ realizable_by k (members set) (listed list) }
 {
-    if !has_clauses(set, k) {
-        return false;
-    }
-    if !validator::is_valid_set(set) {
-        return false;
-    }
-    is_display(list, set, k)
-}
-
-fn is_some(note: Option<Note>) -> bool
-    ensures { result ≡ is_some note }
-{
-    match note {
-        None => false,
-        Some(_) => true,
-    }
+    has_clauses(set, k) && validator::is_valid_set(set) && is_display(list, set, k)
 }
 
 // The question, of any record. One without a root has a text if it is the record of no chord.
 pub fn is_realizable(chord: Chord) -> bool
     ensures { result ≡ realizable (four_of chord) }
 {
-    let root = chord.root;
-    let set = chord.normalized;
-    let list = chord.display;
-    if !is_some(root) {
+    if chord.root.is_none() {
         return chord.same(Chord::new());
     }
-    if !set.is_within() {
-        return false;
-    }
-    is_realizable_by(kind_in(set, list), set, list)
+    chord.normalized.is_within()
+        && is_realizable_by(
+            kind_in(chord.normalized, chord.display),
+            chord.normalized,
+            chord.display,
+        )
 }

@@ -1,6 +1,7 @@
 -- In each arm k is the number that the arm names; at any other number the display list is that of no sus.
 use mathlib.Core.Path.{sym, ap, ◌∙◌}
 use Prim.Native.Nat.{ℕ}
+use native.Mathlib.Omega.{arith}
 use Rattle.intervals.specs.Stored.{list_of, members}
 use Rattle.display.specs.Display.{display_of}
 use Rattle.display.proofs.Order.{shown-plain}
@@ -23,7 +24,5 @@ returns-in-6 c =
 
 pub returns-in_default : goal.returns-in_default
 returns-in_default c =
-    let n = c.in_default.in_default-own.rest in
-    let a = c.args in
-    let e = sym (shown-plain a.k (members a.s) n.0.0.1 n.0.1 n.1) in
+    let e = sym (shown-plain c.args.k (members c.args.s) (λ e. omega arith) (λ e. omega arith) (λ e. omega arith)) in
     (c.in_order-in_default.ensures.0 ∙ ap list_of e, c.in_order-in_default.ensures.1 ∙ e)

@@ -4,14 +4,14 @@ use mathlib.Core.Path.{◌∙◌}
 use native.Mathlib.Omega.{arith}
 use Rattle.display.proofs.order_at.Goals as goal
 
-pub returns-then-k-eq-MINOR_SECOND : goal.returns-then-k-eq-MINOR_SECOND
-returns-then-k-eq-MINOR_SECOND c = let h = at_flat2 c.args.j c.requires in (rw c.if-k-eq-MINOR_SECOND.true (c.moved.ensures ∙ h.0), omega (arith, c.moved.ensures, h.1))
+pub returns-in-1 : goal.returns-in-1
+returns-in-1 c = let h = at_flat2 c.args.j c.requires in (rw c.in-1.is (c.moved.ensures ∙ h.0), omega (arith, c.moved.ensures, h.1))
 
-pub returns-then-k-eq-MAJOR_SECOND : goal.returns-then-k-eq-MAJOR_SECOND
-returns-then-k-eq-MAJOR_SECOND c = let h = at_second c.args.j c.requires in (rw c.if-k-eq-MAJOR_SECOND.true (c.moved-then-k-eq-MAJOR_SECOND.ensures ∙ h.0), omega (arith, c.moved-then-k-eq-MAJOR_SECOND.ensures, h.1))
+pub returns-in-2 : goal.returns-in-2
+returns-in-2 c = let h = at_second c.args.j c.requires in (rw c.in-2.is (c.moved-in-2.ensures ∙ h.0), omega (arith, c.moved-in-2.ensures, h.1))
 
-pub returns-then-k-eq-AUGMENTED_FOURTH : goal.returns-then-k-eq-AUGMENTED_FOURTH
-returns-then-k-eq-AUGMENTED_FOURTH c = let h = at_sharp4 c.args.j c.requires in (rw c.if-k-eq-AUGMENTED_FOURTH.true (c.moved-then-k-eq-AUGMENTED_FOURTH.ensures ∙ h.0), omega (arith, c.moved-then-k-eq-AUGMENTED_FOURTH.ensures, h.1))
+pub returns-in-6 : goal.returns-in-6
+returns-in-6 c = let h = at_sharp4 c.args.j c.requires in (rw c.in-6.is (c.moved-in-6.ensures ∙ h.0), omega (arith, c.moved-in-6.ensures, h.1))
 
-pub returns : goal.returns
-returns c = (at_plain c.args.k c.args.j c.if-k-eq-MINOR_SECOND.false c.if-k-eq-MAJOR_SECOND.false c.if-k-eq-AUGMENTED_FOURTH.false c.requires, c.requires)
+pub returns-in_default : goal.returns-in_default
+returns-in_default c = (at_plain c.args.k c.args.j (λ e. omega arith) (λ e. omega arith) (λ e. omega arith) c.requires, c.requires)

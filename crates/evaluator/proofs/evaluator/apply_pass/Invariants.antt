@@ -1,16 +1,12 @@
--- The invariant: the rest, from the set so far, gives what all of them give.
--- Assumes nothing.
-use Prim.Native.Nat.{◌-◌, ◌≤◌}
+-- The invariant: the set is that after the expressions so far.
+use Rattle.expression.specs.declared.expression.Exp.{Exp}
+use Rattle.intervals.specs.Interval.{Set}
 use Rattle.intervals.specs.Stored.{members}
-use Rattle.evaluator.proofs.Walks.{from}
 use Rattle.evaluator.specs.Evaluator.{fold_left}
-use Rattle.evaluator.specs.State.{change_by}
-use lib.ListN.{length}
+use Rattle.evaluator.specs.State.{Changes}
+use lib.ListN.{take}
 use mathlib.Core.Path.{◌≡◌}
 use Rattle.evaluator.proofs.evaluator.apply_pass.Given as goal
 
-abbrev pub invariant-loop-i : goal.invariant-loop-i
-invariant-loop-i l = (l.i ≤ length l.exps) × (fold_left (change_by l.pass) (members l.s) (from l.i l.exps) ≡ fold_left (change_by l.pass) (members l.initial.s) (from 0 l.exps))
-
-abbrev pub decreases-loop-i : goal.decreases-loop-i
-decreases-loop-i l = length l.exps - l.i
+abbrev pub invariant-loop-e : goal.invariant-loop-e
+invariant-loop-e g l = (f : Set → Exp → Set) → Changes (goal.F-post g l.change) f → members l.s ≡ fold_left f (members l.initial.s) (take l.e-index l.exps)

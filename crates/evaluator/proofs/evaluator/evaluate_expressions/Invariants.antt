@@ -1,11 +1,7 @@
--- The invariant: what was seen, and what the rest still adds, is what all of them say.
-use Prim.Native.Nat.{◌-◌, ◌≤◌}
-use Rattle.evaluator.proofs.Walks.{Remains, from}
-use lib.ListN.{length}
+-- The invariant: what the expressions so far say.
+use Rattle.evaluator.specs.State.{Described}
+use lib.ListN.{take}
 use Rattle.evaluator.proofs.evaluator.evaluate_expressions.Given as goal
 
-abbrev pub invariant-loop-i : goal.invariant-loop-i
-invariant-loop-i l = (l.i ≤ length l.exps) × Remains (from 0 l.exps) (from l.i l.exps) l.d
-
-abbrev pub decreases-loop-i : goal.decreases-loop-i
-decreases-loop-i l = length l.exps - l.i
+abbrev pub invariant-loop-e : goal.invariant-loop-e
+invariant-loop-e l = Described (take l.e-index l.exps) l.d

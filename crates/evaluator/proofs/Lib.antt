@@ -1,3 +1,0 @@
--- What several proofs use.
-mod Rest
-mod Walks
