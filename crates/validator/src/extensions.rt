@@ -6,6 +6,7 @@ ghost use Rattle.expression.specs.State.{Gained};
 ghost use Rattle.validator.specs.State.{error_of};
 ghost use Rattle.validator.specs.Validator.{all_from, bad_extensions, fault_at, extension_fault, conflict_at, extension_errors, is_nil};
 
+use crate::each::push_each;
 use expression::expression::Exp;
 use expression::parser_error::{Errors, ParserError};
 use intervals::{
@@ -75,17 +76,6 @@ fn conflict_at(set: IntervalSet, i: usize) -> Option<ParserError>
     (set.contains(a) && set.contains(b)).then_some(ParserError::InconsistentExtension(u16::from(a)))
 }
 
-fn push_conflicts(set: IntervalSet, errors: &mut Errors)
-    requires { 4 * errors.old.count + 32 ≤ length errors.old.list.now }
-    ensures { Gained errors.old errors.new (all_from (conflict_at (members set)) 8 0) × (errors.new.count ≤ errors.old.count + 8) }
-{
-    for i in 0..8 {
-        if let Some(e) = conflict_at(set, i) {
-            errors.push(e);
-        }
-    }
-}
-
 // Do two members exclude each other?
 pub(crate) fn has_conflict(set: IntervalSet) -> bool
     ensures { result ≡ not (is_nil (all_from (conflict_at (members set)) 8 0)) }
@@ -99,6 +89,6 @@ pub(crate) fn validate_extensions(exps: &[Exp], set: IntervalSet, errors: &mut E
 {
     match first_fault(exps) {
         Some(e) => errors.push(e),
-        None => push_conflicts(set, errors),
+        None => push_each(errors, 8, |i| conflict_at(set, i)),
     }
 }

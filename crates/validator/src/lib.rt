@@ -13,6 +13,7 @@ use extensions::{has_conflict, validate_extensions};
 use intervals::IntervalSet;
 use semitones::{has_neighbours, validate_semitones};
 
+mod each;
 mod expressions;
 mod extensions;
 mod semitones;

@@ -6,6 +6,7 @@ ghost use Rattle.expression.specs.State.{Gained};
 ghost use Rattle.validator.specs.State.{error_of, last_at, last_in, neighbours_in};
 ghost use Rattle.validator.specs.Validator.{is_nil, semitone_errors};
 
+use crate::each::push_each;
 use expression::parser_error::{Errors, ParserError};
 use intervals::{IntervalSet, st};
 
@@ -57,9 +58,5 @@ pub(crate) fn validate_semitones(set: IntervalSet, errors: &mut Errors)
     ensures { Gained errors.old errors.new (semitone_errors (members set)) × (errors.new.count ≤ errors.old.count + 12) }
 {
     let lasts = last_of_class(set);
-    for c in 0..12 {
-        if let Some(e) = neighbours_at(&lasts, c) {
-            errors.push(e);
-        }
-    }
+    push_each(errors, 12, |c| neighbours_at(&lasts, c));
 }
