@@ -36,9 +36,10 @@ fn fault_at(seen: IntervalSet, interval: u8, pos: u16) -> Option<ParserError>
     ensures { error_of result ≡ fault_at (members seen) interval pos }
 {
     if is_bad_extension(interval) {
-        return Some(ParserError::InvalidExtension(pos));
+        Some(ParserError::InvalidExtension(pos))
+    } else {
+        seen.contains(semitones_of(interval)).then_some(ParserError::DuplicateExtension(pos))
     }
-    seen.contains(semitones_of(interval)).then_some(ParserError::DuplicateExtension(pos))
 }
 
 fn first_fault(exps: &[Exp]) -> Option<ParserError>
@@ -80,7 +81,7 @@ fn conflict_at(set: IntervalSet, i: usize) -> Option<ParserError>
 pub(crate) fn has_conflict(set: IntervalSet) -> bool
     ensures { result ≡ not (is_nil (all_from (conflict_at (members set)) 8 0)) }
 {
-    (0..8).any(|i| conflict_at(set, i).is_some())
+    (0..CONFLICTS.len()).any(|i| conflict_at(set, i).is_some())
 }
 
 pub(crate) fn validate_extensions(exps: &[Exp], set: IntervalSet, errors: &mut Errors)
@@ -89,6 +90,6 @@ pub(crate) fn validate_extensions(exps: &[Exp], set: IntervalSet, errors: &mut E
 {
     match first_fault(exps) {
         Some(e) => errors.push(e),
-        None => push_each(errors, 8, |i| conflict_at(set, i)),
+        None => push_each(errors, CONFLICTS.len(), |i| conflict_at(set, i)),
     }
 }

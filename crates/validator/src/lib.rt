@@ -32,6 +32,7 @@ pub fn validate(exps: &[Exp], set: IntervalSet, errs: &mut [u16]) -> usize
 }
 
 // Do the checks that look at the set alone find nothing?
+#[tactic(auto, unfolding(crate::specs::Validator::set_valid))]
 pub fn is_valid_set(set: IntervalSet) -> bool
     ensures { result ≡ set_valid (members set) }
 {

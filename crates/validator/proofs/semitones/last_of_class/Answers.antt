@@ -5,6 +5,7 @@ use Rattle.intervals.specs.Stored.{members}
 use Rattle.intervals.specs.Interval.{semitones}
 use Rattle.std.specs.declared.option.Option.TheVariants.{Some}
 use Rattle.std.specs.declared.option.Option.{Option}
+use Rattle.std.proofs.lemmas.Grind.{common_steps}
 use Rattle.validator.proofs.Arrays.{put-at}
 use Rattle.validator.proofs.Walks.{last_step}
 use Rattle.validator.specs.State.{last_at, last_in}
@@ -26,8 +27,8 @@ loop-i-preserved c =
         λ t k h e. ap (λ (b : Bool). cond (b && eqb (semitones i % 12) k) (Some i) (last_at l k)) e
         ∙ ap (λ (o : Option ℕ). cond (s i && eqb (semitones i % 12) k) (Some i) o) (v.1 k h) ∙ last_step i s k in
     elim c.if-contains.branch [
-      then-contains w ↦ rw w.lasts-is (simp length-set v.0, λ k h. put-at l w.class_of.result (Some i) (omega (arith, w.class_of.ensures, v.0)) k ∙ ap (λ (d : ℕ). cond (eqb d k) (Some i) (last_at l k)) w.class_of.ensures ∙ step true k h w.if-contains.ensures)
-    | else-contains w ↦ rw w.lasts-is (v.0, λ k h. step false k h w.if-contains.ensures)
+      then-contains w ↦ rw w.lasts-is (simp length-set v.0, λ k h. grind (arith, common_steps, last_step, put-at, v.1 k h)) -- put-at l w.class_of.result (Some i) (omega (arith, w.class_of.ensures, v.0)) k ∙ ap (λ (d : ℕ). cond (eqb d k) (Some i) (last_at l k)) w.class_of.ensures ∙ step true k h w.if-contains.ensures)
+    | else-contains w ↦ rw w.lasts-is (v.0, λ k h. grind (arith, common_steps, last_step, v.1 k h))
     ]
 
 pub returns : goal.returns
