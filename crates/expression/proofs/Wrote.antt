@@ -9,7 +9,8 @@ use lib.Seq.{drop_at, drop-drop, length-take-le, take_at}
 use Rattle.expression.proofs.AllNumbers.{all_append}
 use Rattle.expression.specs.ParserError.{all_numbers, numbers_of}
 use Rattle.expression.specs.declared.parser_error.ParserError.{ParserError}
-use Rattle.expression.specs.State.{Wrote}
+use Rattle.expression.specs.declared.parser_error.Errors.{Errors}
+use Rattle.expression.specs.State.{Gained, Wrote}
 
 -- what agrees from n on agrees from any later place on
 pub later : {A : Type 0} (a b : List A) (n m : ℕ) → n ≤ m → drop n a ≡ drop n b → drop m a ≡ drop m b
@@ -46,3 +47,19 @@ wrote_then {n} {m} {r} {a} {b} {es} {es'} {es''} v w =
 -- the same errors by another name
 pub wrote_as : {n r : ℕ} {a b : List ParserError} {es es' : List ℕ} → a ≡ b → Wrote n r a es es' → Wrote n r b es es'
 wrote_as {n} {r} {a} {b} {es} {es'} e w = subst (λ (q : List ParserError). Wrote n r q es es') e w
+
+-- the same of the errors that a lent list begins with
+pub gained_none : (a : Errors) → Gained a a []
+gained_none a = record { wrote = wrote_none a.count a.list.now; size = refl; place = refl }
+
+pub gained_then : {a b c : Errors} {x y : List ParserError} → Gained a b x → Gained b c y → Gained a c (x ++ y)
+gained_then v w = record { wrote = wrote_then v.wrote w.wrote; size = w.size ∙ v.size; place = w.place ∙ v.place }
+
+pub gained_as : {a b : Errors} {x y : List ParserError} → x ≡ y → Gained a b x → Gained a b y
+gained_as e v = record { wrote = wrote_as e v.wrote; size = v.size; place = v.place }
+
+-- those of a list that was lent with none, once it is given back
+pub written : {a b : Errors} {x : List ParserError} {es es' : List ℕ} → Gained a b x → a.count ≡ 0 → a.list.now ≡ es → es' ≡ b.list.now → Wrote 0 b.count x es es'
+written {a} {b} {x} {es} {es'} v e f g =
+    let w : Wrote 0 b.count x a.list.now b.list.now = subst (λ (n : ℕ). Wrote n b.count x a.list.now b.list.now) e v.wrote in
+    subst (λ (l : List ℕ). Wrote 0 b.count x l es') f (subst (λ (l : List ℕ). Wrote 0 b.count x a.list.now l) (sym g) w)

@@ -1,7 +1,7 @@
 // The errors of parsing and validation, an error as four numbers, and the errors that a lent list holds so.
 ghost use Rattle.std.specs.Prelude.{[], ◌∷◌, ◌≡◌, ◌++◌, ◌+◌, ◌*◌, ◌≤◌, length, take, drop};
 ghost use Rattle.expression.specs.ParserError.{numbers_of};
-ghost use Rattle.expression.specs.State.{Wrote};
+ghost use Rattle.expression.specs.State.{Gained};
 
 // A position is a byte offset. Kind 3 carries the `priority` of the repeated expression, kind 4 an interval, kind 10 three.
 #[derive(Clone, Copy, PartialEq, Eq)]
@@ -73,7 +73,7 @@ pub struct Errors<'a> {
 impl<'a> Errors<'a> {
     // None yet.
     pub fn new(list: &'a mut [u16]) -> Errors<'a>
-        ensures { (result.count ≡ 0) × (result.list.now ≡ list.old) }
+        ensures { (result.count ≡ 0) × (result.list.now ≡ list.old) × (result.list.ghost_name ≡ list.entry.ghost_name) }
     {
         Errors { list, count: 0 }
     }
@@ -81,7 +81,7 @@ impl<'a> Errors<'a> {
     // One error more.
     pub fn push(&mut self, e: ParserError)
         requires { 4 * self.old.count + 4 ≤ length self.old.list.now }
-        ensures { Wrote self.old.count self.new.count (e ∷ []) self.old.list.now self.new.list.now }
+        ensures { Gained self.old self.new (e ∷ []) }
     {
         store(self.list, self.count, e);
         self.count += 1;

@@ -1,84 +1,48 @@
 // The check of the expressions: their targets, and those that may stand but once.
-ghost use Rattle.std.specs.Prelude.{map, ◌≡◌, cond, ℕ, ◌+◌, ◌*◌, ◌≤◌, ◌<◌, eqb, length};
+ghost use Rattle.std.specs.Prelude.{◌≡◌, cond, ℕ, ◌+◌, ◌*◌, ◌≤◌, ◌<◌, eqb, length};
 ghost use Rattle.intervals.specs.Interval.{elem};
-ghost use Rattle.expression.specs.Expression.{exp_of};
-ghost use Rattle.expression.specs.State.{Wrote};
+ghost use Rattle.expression.specs.State.{Gained};
 ghost use Rattle.validator.specs.State.{error_of, counts_of};
-ghost use Rattle.validator.specs.Validator.{add_targets, omit_targets, wrong_of, first_wrong, priority_of, times_of, repeated_at, repeated, expression_errors};
+ghost use Rattle.validator.specs.Validator.{add_targets, omit_targets, wrong_of, first_wrong, priority_of, times_of, repeated, expression_errors};
 
-use crate::fault::{Fault, fault_if, push};
 use expression::expression::Exp;
-use expression::parser_error::ParserError;
+use expression::parser_error::{Errors, ParserError};
+use intervals::{
+    ELEVENTH, FLAT_NINTH, FLAT_THIRTEENTH, MAJOR_SECOND, MAJOR_SEVENTH, MAJOR_SIXTH, MAJOR_THIRD, MINOR_SIXTH, NINTH, PERFECT_FIFTH,
+    PERFECT_FOURTH, SHARP_ELEVENTH, SHARP_NINTH, THIRTEENTH,
+};
 
 // Is the interval one that Add may name?
 fn is_add_target(interval: u8) -> bool
     ensures { result ≡ elem interval add_targets }
 {
-    match interval {
-        2 => true,
-        4 => true,
-        5 => true,
-        10 => true,
-        11 => true,
-        14 => true,
-        16 => true,
-        17 => true,
-        18 => true,
-        19 => true,
-        20 => true,
-        21 => true,
-        22 => true,
-        _ => false,
-    }
+    matches!(
+        interval,
+        MAJOR_SECOND | MAJOR_THIRD | PERFECT_FOURTH | MINOR_SIXTH | MAJOR_SIXTH | MAJOR_SEVENTH | FLAT_NINTH..=THIRTEENTH
+    )
 }
 
 // Is the interval one that Omit may name?
 fn is_omit_target(interval: u8) -> bool
     ensures { result ≡ elem interval omit_targets }
 {
-    match interval {
-        4 => true,
-        8 => true,
-        _ => false,
-    }
+    matches!(interval, MAJOR_THIRD | PERFECT_FIFTH)
 }
 
-fn wrong_of(e: Exp) -> Fault
+fn wrong_of(e: Exp) -> Option<ParserError>
     ensures { error_of result ≡ wrong_of e }
 {
     match e {
-        Exp::Power => Fault::None,
-        Exp::Bass => Fault::None,
-        Exp::Maj => Fault::None,
-        Exp::Maj7 => Fault::None,
-        Exp::Minor => Fault::None,
-        Exp::HalfDim => Fault::None,
-        Exp::Dim => Fault::None,
-        Exp::Dim7 => Fault::None,
-        Exp::Alt => Fault::None,
-        Exp::Aug => Fault::None,
-        Exp::Sus(_) => Fault::None,
-        Exp::Extension(_, _) => Fault::None,
-        Exp::Add(x, pos) => { fault_if(!is_add_target(x), ParserError::WrongExpressionTarget(pos)) }
-        Exp::Omit(x, pos) => {
-            fault_if(!is_omit_target(x), ParserError::WrongExpressionTarget(pos))
-        }
-        Exp::SlashBass(_) => Fault::None,
+        Exp::Add(x, pos) => (!is_add_target(x)).then_some(ParserError::WrongExpressionTarget(pos)),
+        Exp::Omit(x, pos) => (!is_omit_target(x)).then_some(ParserError::WrongExpressionTarget(pos)),
+        _ => None,
     }
 }
 
-fn first_wrong(exps: &[u32]) -> Fault
-    ensures { error_of result ≡ first_wrong (map exp_of exps.now) }
+fn first_wrong(exps: &[Exp]) -> Option<ParserError>
+    ensures { error_of result ≡ first_wrong exps.now }
 {
-    let mut i = 0;
-    while i < exps.len() {
-        let f = wrong_of(Exp::from_number(exps[i]));
-        if f.is_some() {
-            return f;
-        }
-        i += 1;
-    }
-    Fault::None
+    exps.iter().find_map(|e| wrong_of(*e))
 }
 
 // The `priority` of an expression that may stand but once; 15 of Extension, Add and Omit.
@@ -96,11 +60,9 @@ fn priority(e: Exp) -> u8
         Exp::Sus(_) => 7,
         Exp::Maj => 8,
         Exp::Maj7 => 9,
-        Exp::Extension(_, _) => 15,
-        Exp::Add(_, _) => 15,
         Exp::Aug => 12,
-        Exp::Omit(_, _) => 15,
         Exp::SlashBass(_) => 14,
+        Exp::Extension(_, _) | Exp::Add(_, _) | Exp::Omit(_, _) => 15,
     }
 }
 
@@ -118,72 +80,42 @@ impl Counts {
     }
 
     // One more of the priority p; those from 15 on are not counted.
-    fn add(self, p: u8) -> Counts
-        requires { p < 15 → counts_of self p < 65535 }
-        ensures { (q : ℕ) → q < 15 → counts_of result q ≡ cond (eqb p q) 1 0 + counts_of self q }
+    fn add(&mut self, p: u8)
+        requires { p < 15 → counts_of self.old p < 65535 }
+        ensures { (q : ℕ) → q < 15 → counts_of self.new q ≡ cond (eqb p q) 1 0 + counts_of self.old q }
     {
-        let i = p as usize;
-        if 15 <= i {
-            return self;
+        if p < 15 {
+            self.of[usize::from(p)] += 1;
         }
-        let mut c = self;
-        c.of[i] = self.of[i] + 1;
-        c
     }
 }
 
-fn count(exps: &[u32]) -> Counts
+fn count(exps: &[Exp]) -> Counts
     requires { length exps.now ≤ 257 }
-    ensures { (p : ℕ) → p < 15 → counts_of result p ≡ times_of (map exp_of exps.now) p }
+    ensures { (p : ℕ) → p < 15 → counts_of result p ≡ times_of exps.now p }
 {
     let mut counts = Counts::new();
-    let mut i = 0;
-    while i < exps.len() {
-        counts = counts.add(priority(Exp::from_number(exps[i])));
-        i += 1;
+    for e in exps {
+        counts.add(priority(*e));
     }
     counts
 }
 
-fn repeated_at(counts: Counts, p: u16) -> Fault
-    requires { p < 15 }
-    ensures { error_of result ≡ repeated_at (counts_of counts) p }
-{
-    let i = p as usize;
-    fault_if(1 < counts.of[i], ParserError::DuplicateModifier(p))
-}
-
 // The least priority that occurs more than once.
-fn first_repeated(exps: &[u32]) -> Fault
+fn first_repeated(exps: &[Exp]) -> Option<ParserError>
     requires { length exps.now ≤ 257 }
-    ensures { error_of result ≡ repeated (map exp_of exps.now) }
+    ensures { error_of result ≡ repeated exps.now }
 {
     let counts = count(exps);
-    let mut p = 0;
-    while p < 15 {
-        let f = repeated_at(counts, p);
-        if f.is_some() {
-            return f;
-        }
-        p += 1;
-    }
-    Fault::None
+    let priority = counts.of.iter().position(|times| 1 < *times)?;
+    Some(ParserError::DuplicateModifier(priority as u16))
 }
 
-fn expression_fault(exps: &[u32]) -> Fault
-    requires { length exps.now ≤ 257 }
-    ensures { error_of result ≡ expression_errors (map exp_of exps.now) }
+pub(crate) fn validate_expressions(exps: &[Exp], errors: &mut Errors)
+    requires { (length exps.now ≤ 257) × (4 * errors.old.count + 4 ≤ length errors.old.list.now) }
+    ensures { Gained errors.old errors.new (expression_errors exps.now) × (errors.new.count ≤ errors.old.count + 1) }
 {
-    let f = first_wrong(exps);
-    if f.is_some() {
-        return f;
+    if let Some(e) = first_wrong(exps).or_else(|| first_repeated(exps)) {
+        errors.push(e);
     }
-    first_repeated(exps)
-}
-
-pub(crate) fn validate_expressions(exps: &[u32], errs: &mut [u16], n: usize) -> usize
-    requires { (length exps.now ≤ 257) × (4 * n + 4 ≤ length errs.old) }
-    ensures { Wrote n result (expression_errors (map exp_of exps.now)) errs.old errs.new × (result ≤ n + 1) }
-{
-    push(errs, n, expression_fault(exps))
 }

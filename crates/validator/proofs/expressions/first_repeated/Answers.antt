@@ -1,36 +1,34 @@
--- The invariant: the first that repeats from p on is the first that repeats.
+-- By the place of the first count above 1, and by what the counts are.
 -- Assumes nothing.
-use Prim.Native.Nat.{ℕ, ◌-◌, ◌+◌}
-use Rattle.expression.specs.Expression.{exp_of}
-use Rattle.expression.specs.declared.parser_error.ParserError.TheVariants.{DuplicateModifier}
-use Rattle.validator.proofs.Choices.{found, passed}
-use Rattle.validator.proofs.Walks.{first_step, first_end}
-use Rattle.validator.specs.State.{error_of}
-use Rattle.validator.specs.Validator.{times_of, first_from, only, repeated_at}
-use lib.Dec.{ltb}
-use mathlib.Core.List.{map}
-use mathlib.Core.Path.{◌≡◌, refl, sym, ap, ◌∙◌}
+use Prim.Native.Nat.{ℕ, ◌≤◌, ◌<◌}
+use mathlib.Core.List.{List}
+use mathlib.Core.Path.{◌≡◌, ap, ◌∙◌}
 use native.Mathlib.Omega.{arith}
+use lib.Dec.{ltb}
+use Rattle.std.proofs.Common.{rules}
+use Rattle.std.specs.declared.option.Option.TheVariants.{None, Some}
+use Rattle.expression.specs.declared.parser_error.ParserError.TheVariants.{DuplicateModifier}
+use Rattle.expression.specs.declared.parser_error.ParserError.{ParserError}
+use Rattle.validator.proofs.Walks.{first_is, first_same, once, repeats}
+use Rattle.validator.specs.State.{counts_of, error_of}
+use Rattle.validator.specs.Validator.{first_from, only, repeated_at, times_of}
 use Rattle.validator.proofs.expressions.first_repeated.Goals as goal
 
-pub loop-p-init : goal.loop-p-init
-loop-p-init c = (omega arith, refl)
-
-pub returns-then-is_some : goal.returns-then-is_some
-returns-then-is_some c =
-    let f = repeated_at (times_of (map exp_of c.args.exps.now)) in
-    let p = c.loop-p.p in
-    let h = c.loop-p-test.true in
-    let e : error_of c.repeated_at-f.result ≡ f p = c.repeated_at-f.ensures ∙ ap (λ (k : ℕ). only (ltb 1 k) (DuplicateModifier p)) (c.count-counts.ensures p h) in
-    found c.repeated_at-f.result (first_from f (15 - (p + 1)) (p + 1)) e (sym c.is_some.ensures ∙ c.if-is_some.true) ∙ sym (first_step f 15 p h) ∙ sym c.loop-p.invariant.1
-
-pub loop-p-preserved : goal.loop-p-preserved
-loop-p-preserved c =
-    let f = repeated_at (times_of (map exp_of c.args.exps.now)) in
-    let p = c.loop-p.p in
-    let h = c.loop-p-test.true in
-    let e : error_of c.repeated_at-f.result ≡ f p = c.repeated_at-f.ensures ∙ ap (λ (k : ℕ). only (ltb 1 k) (DuplicateModifier p)) (c.count-counts.ensures p h) in
-    (omega (arith, h), c.loop-p.invariant.1 ∙ first_step f 15 p h ∙ passed c.repeated_at-f.result (first_from f (15 - (p + 1)) (p + 1)) e (sym c.is_some.ensures ∙ c.if-is_some.false))
+-- counts that agree have the same first
+agree : (f g : ℕ → ℕ) → ((p : ℕ) → p < 15 → f p ≡ g p) → first_from (repeated_at f) 15 0 ≡ first_from (repeated_at g) 15 0
+agree f g h = first_same (repeated_at f) (repeated_at g) 15 0 (λ k b. ap (λ (n : ℕ). only (ltb 1 n) (DuplicateModifier k)) (h k (omega arith)))
 
 pub returns : goal.returns
-returns c = sym (c.loop-p.invariant.1 ∙ first_end (repeated_at (times_of (map exp_of c.args.exps.now))) 15 c.loop-p.p c.loop-p-test.false)
+returns c =
+    let n = counts_of c.count-counts.result in
+    let p = c.in_ok-priority.priority in
+    let h : (p < 15) × (1 < n p) × ((k : ℕ) → k < p → n k ≤ 1) = search rules in
+    first_is (repeated_at n) 15 0 (Some (DuplicateModifier p)) (p, omega arith, omega (arith, h.0), repeats (n p) p h.1, λ k _ u. once (n k) k (h.2 k u))
+    ∙ agree n (times_of c.args.exps.now) c.count-counts.ensures
+
+pub returns-in_err-priority : goal.returns-in_err-priority
+returns-in_err-priority c =
+    let n = counts_of c.count-counts.result in
+    let h : (k : ℕ) → k < 15 → n k ≤ 1 = search rules in
+    let e : c.from_residual.result ≡ None = search rules in
+    ap error_of e ∙ first_is (repeated_at n) 15 0 None (λ k _ u. once (n k) k (h k (omega (arith, u)))) ∙ agree n (times_of c.args.exps.now) c.count-counts.ensures

@@ -1,27 +1,20 @@
--- The invariant: what is found from here on is what is found at all.
+-- By the place of the first.
 -- Assumes nothing.
-use Prim.Native.Nat.{◌-◌, ◌+◌}
-use Rattle.validator.proofs.Choices.{found, passed}
-use Rattle.validator.proofs.Walks.{exps_from, wrong_step, wrong_end}
-use Rattle.validator.specs.Validator.{first_wrong, wrong_of}
-use mathlib.Core.Path.{refl, sym, ap, ◌∙◌}
+use Prim.Native.Nat.{ℕ, ◌+◌}
+use mathlib.Core.List.{List}
+use mathlib.Core.Path.{◌≡◌, ap, ◌∙◌}
 use native.Mathlib.Omega.{arith}
+use lib.ListN.{length, get_or}
+use Rattle.std.proofs.Common.{rules}
+use Rattle.expression.specs.declared.expression.Exp.TheVariants.{Power}
+use Rattle.expression.specs.declared.parser_error.ParserError.{ParserError}
+use Rattle.validator.proofs.Walks.{IsFirst, first_is, wrong_by_place}
+use Rattle.validator.specs.Validator.{wrong_of}
 use Rattle.validator.proofs.expressions.first_wrong.Goals as goal
 
-pub loop-i-init : goal.loop-i-init
-loop-i-init c = (omega arith, refl)
-
-pub returns-then-is_some : goal.returns-then-is_some
-returns-then-is_some c =
-    let xs = c.args.exps.now in
-    let i = c.loop-i.i in
-    found c.wrong_of-f.result (first_wrong (exps_from xs (i + 1))) (c.wrong_of-f.ensures ∙ ap wrong_of c.from_number.ensures) (sym c.is_some.ensures ∙ c.if-is_some.true) ∙ sym (wrong_step xs i c.loop-i-test.true) ∙ sym c.loop-i.invariant.1
-
-pub loop-i-preserved : goal.loop-i-preserved
-loop-i-preserved c =
-    let xs = c.args.exps.now in
-    let i = c.loop-i.i in
-    (omega (arith, c.loop-i-test.true), c.loop-i.invariant.1 ∙ wrong_step xs i c.loop-i-test.true ∙ passed c.wrong_of-f.result (first_wrong (exps_from xs (i + 1))) (c.wrong_of-f.ensures ∙ ap wrong_of c.from_number.ensures) (sym c.is_some.ensures ∙ c.if-is_some.false))
-
 pub returns : goal.returns
-returns c = sym (c.loop-i.invariant.1 ∙ wrong_end c.args.exps.now c.loop-i.i c.loop-i-test.false)
+returns c =
+    let xs = c.args.exps.now in
+    let f : ℕ → List ParserError = λ k. wrong_of (get_or xs k Power) in
+    let h : IsFirst f (length xs) 0 c.find_map.result = search rules in
+    first_is f (length xs) 0 c.find_map.result h ∙ wrong_by_place xs f 0 (λ k b. let e : 0 + k ≡ k = omega arith in ap f e)

@@ -1,19 +1,15 @@
--- By whether an extension has a fault.
+-- With no fault of an extension, the errors are those of the pairs.
 -- Assumes nothing.
 use Rattle.intervals.specs.Stored.{members}
-use Rattle.validator.proofs.Choices.{found, passed}
-use Rattle.expression.proofs.Wrote.{wrote_as}
-use Rattle.validator.specs.Validator.{all_from, conflict_at}
-use mathlib.Core.Path.{sym, ◌∙◌}
-use native.Mathlib.Omega.{arith}
+use Rattle.std.proofs.Common.{rules}
+use Rattle.expression.proofs.Wrote.{gained_as}
+use Rattle.expression.specs.declared.parser_error.ParserError.{ParserError}
+use Rattle.validator.specs.Validator.{all_from, conflict_at, or_else}
+use mathlib.Core.List.{List}
+use mathlib.Core.Path.{ap}
 use Rattle.validator.proofs.extensions.validate_extensions.Goals as goal
 
-pub returns-then-is_some : goal.returns-then-is_some
-returns-then-is_some c =
-    let s = members c.args.set in
-    (wrote_as (found c.first_fault-f.result (all_from (conflict_at s) 8 0) c.first_fault-f.ensures (sym c.is_some.ensures ∙ c.if-is_some.true)) c.push.ensures.0, omega (arith, c.push.ensures.1))
-
-pub returns : goal.returns
-returns c =
-    let s = members c.args.set in
-    (wrote_as (sym (passed c.first_fault-f.result (all_from (conflict_at s) 8 0) c.first_fault-f.ensures (sym c.is_some.ensures ∙ c.if-is_some.false))) c.push_conflicts.ensures.0, c.push_conflicts.ensures.1)
+pub returns-in-None : goal.returns-in-None
+returns-in-None c =
+    let f = conflict_at (members c.args.set) in
+    (gained_as (ap (λ (q : List ParserError). or_else q (all_from f 8 0)) c.in-None.ensures) (c.push_each.ensures.gained f (λ i r l p. search rules)), c.push_each.ensures.count)
