@@ -7,7 +7,7 @@ ghost use Rattle.lookahead.specs.Next.{next_of, number_in, is_number, sign_in, i
 use note::{Note, NoteLiteral, RootModifier};
 use token::TokenType;
 
-#[derive(Clone, Copy)]
+#[derive(Clone, Copy, PartialEq, Eq)]
 pub enum Next {
     Note(NoteLiteral),
     Sharp,
@@ -43,89 +43,48 @@ pub fn next_of(kind: TokenType) -> Next
 }
 
 impl Next {
-    // The number of an extension; 0 where there is none.
+    // The number of an extension; 0 where there is none, which no extension names.
     pub fn number(self) -> u8
         ensures { result ≡ number_in self }
     {
         match self {
-            Next::Note(_) => 0,
-            Next::Sharp => 0,
-            Next::Flat => 0,
             Next::Extension(n) => n,
-            Next::Maj7 => 0,
-            Next::Eof => 0,
-            Next::Other => 0,
+            _ => 0,
         }
     }
 
     pub fn is_extension(self) -> bool
         ensures { result ≡ is_number self }
     {
-        match self {
-            Next::Note(_) => false,
-            Next::Sharp => false,
-            Next::Flat => false,
-            Next::Extension(_) => true,
-            Next::Maj7 => false,
-            Next::Eof => false,
-            Next::Other => false,
-        }
+        matches!(self, Next::Extension(_))
     }
 
     pub fn sign(self) -> RootModifier
         ensures { result ≡ sign_in self }
     {
         match self {
-            Next::Note(_) => RootModifier::Natural,
             Next::Sharp => RootModifier::Sharp,
             Next::Flat => RootModifier::Flat,
-            Next::Extension(_) => RootModifier::Natural,
-            Next::Maj7 => RootModifier::Natural,
-            Next::Eof => RootModifier::Natural,
-            Next::Other => RootModifier::Natural,
+            _ => RootModifier::Natural,
         }
     }
 
     pub fn is_sign(self) -> bool
         ensures { result ≡ is_sign self }
     {
-        match self {
-            Next::Note(_) => false,
-            Next::Sharp => true,
-            Next::Flat => true,
-            Next::Extension(_) => false,
-            Next::Maj7 => false,
-            Next::Eof => false,
-            Next::Other => false,
-        }
+        matches!(self, Next::Sharp | Next::Flat)
     }
 
     pub fn is_maj7(self) -> bool
         ensures { result ≡ is_maj7 self }
     {
-        match self {
-            Next::Note(_) => false,
-            Next::Sharp => false,
-            Next::Flat => false,
-            Next::Extension(_) => false,
-            Next::Maj7 => true,
-            Next::Eof => false,
-            Next::Other => false,
-        }
+        matches!(self, Next::Maj7)
     }
 
     pub fn is_eof(self) -> bool
         ensures { result ≡ is_end self }
     {
-        match self {
-            Next::Note(_) => false,
-            Next::Sharp => false,
-            Next::Flat => false,
-            Next::Extension(_) => false,
-            Next::Maj7 => false,
-            Next::Eof => true,
-            Next::Other => false,
-        }
+        matches!(self, Next::Eof)
     }
 
     // The note that begins here, with the sign of the token after it.
@@ -134,12 +93,7 @@ impl Next {
     {
         match self {
             Next::Note(literal) => Some(Note { literal, modifier }),
-            Next::Sharp => None,
-            Next::Flat => None,
-            Next::Extension(_) => None,
-            Next::Maj7 => None,
-            Next::Eof => None,
-            Next::Other => None,
+            _ => None,
         }
     }
 }

@@ -20,7 +20,8 @@ use Rattle.step.specs.Step.{add_interval, add_signed, add_target, inside_of, int
 use Rattle.step.specs.declared.context.Context.TheVariants as context
 use Rattle.step.specs.declared.context.GroupKind.TheVariants as group
 use lib.{Dec.eqb, Dec.ltb, ListN.get_or, Signed.lt_z}
-use Rattle.note.specs.declared.OptionalNote.{OptionalNote, TheVariants.Some, TheVariants.None}
+use Rattle.std.specs.declared.option.Option.TheVariants.{Some, None}
+use Rattle.note.specs.Note.{OptionalNote}
 use Rattle.note.specs.declared.RootModifier.{RootModifier, TheVariants.Natural, TheVariants.Sharp, TheVariants.Flat}
 use Rattle.step.specs.{Bounds.Small, Bounds.SoundGains, Bounds.sus_bit, Context.member_of, Context.on_comma, Context.start_group, Effect.taking, Effect.within, Interval.interval_of, Interval.intervals_by}
 use Rattle.step.specs.declared.{context.Context.Context, context.GroupKind.GroupKind, effect.Effect.Effect, effect.Here.Here}

@@ -1,12 +1,16 @@
 -- The effects of which those of the tokens are made.
-use Rattle.std.specs.Prelude.{ℕ, ℤ}
+use Rattle.std.specs.Prelude.{Option, ℕ, ℤ}
+use Rattle.std.specs.declared.option.Option.TheVariants as error
 use Rattle.expression.specs.declared.expression.Exp.{Exp}
 use Rattle.expression.specs.declared.parser_error.ParserError.{ParserError}
 use Rattle.step.specs.declared.context.Context.{Context}
 use Rattle.step.specs.declared.effect.Effect.{Effect}
 use Rattle.step.specs.declared.effect.Gains.TheVariants as gains
 use Rattle.step.specs.declared.effect.Here.{Here}
-use Rattle.step.specs.declared.effect.OptionalError.TheVariants as error
+
+-- the error of an effect, or none
+abbrev pub OptionalError : Type 0
+OptionalError = Option ParserError
 
 -- no token is taken, and the state and both lists stay
 abbrev pub kept : Here → Effect

@@ -1,5 +1,6 @@
 -- The interval of a number by its sign, as the Rust's `from_modifier_extension` has it.
-use Rattle.std.specs.Prelude.{cond, List, [], ◌∷◌, ℕ, ltb, get_or}
+use Rattle.std.specs.Prelude.{cond, Option, List, [], ◌∷◌, ℕ, eqb, ltb, get_or}
+use Rattle.std.specs.declared.option.Option.TheVariants.{None, Some}
 use Rattle.intervals.specs.Interval.{unison, minor_second, major_second, minor_third, major_third, perfect_fourth, augmented_fourth, diminished_fifth, perfect_fifth, augmented_fifth, minor_sixth, major_sixth, minor_seventh, octave, flat_ninth, ninth, sharp_ninth, eleventh, sharp_eleventh, flat_thirteenth, thirteenth}
 use Rattle.note.specs.declared.RootModifier.TheVariants.{Natural, Sharp, Flat}
 use Rattle.note.specs.declared.RootModifier.{RootModifier}
@@ -74,3 +75,7 @@ intervals_by Flat = flat
 -- `from_modifier_extension`: no number above 13 has an interval
 abbrev pub interval_of : RootModifier → ℕ → ℕ
 interval_of m n = cond (ltb n 14) (get_or (intervals_by m) n 0) no_interval
+
+-- an interval, where there is one
+abbrev pub found : ℕ → Option ℕ
+found i = cond (eqb i no_interval) None (Some i)

@@ -1,5 +1,5 @@
 -- From tokens to expressions: what one token does.
-use Rattle.std.specs.Prelude.{Bool, cond, ◌&&◌, ◌||◌, ℕ, ◌+◌, eqb, pos, ◌+ℤ◌, ◌-ℤ◌}
+use Rattle.std.specs.Prelude.{Bool, Option, cond, ◌&&◌, ◌||◌, ℕ, ◌+◌, eqb, pos, ◌+ℤ◌, ◌-ℤ◌}
 use Rattle.std.specs.Int.Signed.{lt_z}
 use Rattle.intervals.specs.Interval.{augmented_fourth, diminished_fifth, major_second, major_seventh, major_third, minor_second, ninth, perfect_fifth, perfect_fourth}
 use Rattle.note.specs.declared.Note.{Note}
@@ -47,6 +47,11 @@ add_interval (context.Group g) h i p = cond g.active (pushing h (member_of g.kin
 -- `modifier` and `extension`: the interval i at p; where there is none, kind 6 at q
 abbrev pub placed : Here → ℕ → ℕ → ℕ → Effect
 placed h i p q = cond (eqb i no_interval) (failing h (InvalidExtension q)) (add_interval h.context h i p)
+
+-- the same of an interval that was found or not
+abbrev pub placing : Here → Option ℕ → ℕ → ℕ → Effect
+placing h optional.None p q = failing h (InvalidExtension q)
+placing h (optional.Some i) p q = add_interval h.context h i p
 
 -- `modifier`: a sign takes the number after it
 abbrev pub modifier_step : RootModifier → Here → Next → Effect

@@ -41,34 +41,28 @@ impl Context {
         ensures { result ≡ start_group self kind inside }
     {
         if inside {
-            return Context::Group(GroupContext {
+            Context::Group(GroupContext {
                 kind,
                 active: false,
-            });
+            })
+        } else {
+            self
         }
-        self
     }
 
+    // A comma makes a group active; any other state becomes none.
     pub(crate) fn on_comma(self) -> Context
         ensures { result ≡ on_comma self }
     {
         match self {
-            Context::None => Context::None,
-            Context::Sus => Context::None,
-            Context::Group(g) => {
-                let kind = g.kind;
-                Context::Group(GroupContext { kind, active: true })
-            }
+            Context::Group(g) => Context::Group(GroupContext { active: true, ..g }),
+            _ => Context::None,
         }
     }
 
     pub(crate) fn is_none(self) -> bool
         ensures { result ≡ is_none self }
     {
-        match self {
-            Context::None => true,
-            Context::Sus => false,
-            Context::Group(_) => false,
-        }
+        matches!(self, Context::None)
     }
 }

@@ -7,6 +7,7 @@ use crate::context::Context;
 use expression::expression::Exp;
 use expression::parser_error::ParserError;
 
+// Three cases and no array of options: a second expression comes only behind a first.
 #[derive(Clone, Copy)]
 pub enum Gains {
     None,
@@ -15,18 +16,12 @@ pub enum Gains {
 }
 
 #[derive(Clone, Copy)]
-pub enum OptionalError {
-    None,
-    Some(ParserError),
-}
-
-#[derive(Clone, Copy)]
 pub struct Effect {
     pub taken: usize,
     pub count: i16,
     pub context: Context,
     pub gains: Gains,
-    pub error: OptionalError,
+    pub error: Option<ParserError>,
 }
 
 // Where the token stands and the state before it; `six` is whether the last expression is the extension 6.
@@ -39,42 +34,33 @@ pub struct Here {
     pub six: bool,
 }
 
+// The state and both lists as they are.
 pub(crate) fn keep(h: Here) -> Effect
     ensures { result ≡ kept h }
 {
-    let context = h.context;
     Effect {
         taken: 0,
         count: h.count,
-        context,
+        context: h.context,
         gains: Gains::None,
-        error: OptionalError::None,
+        error: None,
     }
 }
 
 pub(crate) fn enter(h: Here, context: Context) -> Effect
     ensures { result ≡ within context (kept h) }
 {
-    Effect {
-        taken: 0,
-        count: h.count,
-        context,
-        gains: Gains::None,
-        error: OptionalError::None,
-    }
+    Effect { context, ..keep(h) }
 }
 
 // An expression, for which so many tokens after it are taken too.
 pub(crate) fn push(h: Here, e: Exp, taken: usize) -> Effect
     ensures { result ≡ taking taken (pushing h e) }
 {
-    let context = h.context;
     Effect {
         taken,
-        count: h.count,
-        context,
         gains: Gains::One(e),
-        error: OptionalError::None,
+        ..keep(h)
     }
 }
 
@@ -83,11 +69,9 @@ pub(crate) fn push_after_sus(h: Here, e: Exp) -> Effect
     ensures { result ≡ within None (pushing h e) }
 {
     Effect {
-        taken: 0,
-        count: h.count,
         context: Context::None,
         gains: Gains::One(e),
-        error: OptionalError::None,
+        ..keep(h)
     }
 }
 
@@ -96,24 +80,19 @@ pub(crate) fn push_two_after_sus(h: Here, e: Exp, f: Exp) -> Effect
     ensures { result ≡ within None (pushing2 h e f) }
 {
     Effect {
-        taken: 0,
-        count: h.count,
         context: Context::None,
         gains: Gains::Two(e, f),
-        error: OptionalError::None,
+        ..keep(h)
     }
 }
 
 pub(crate) fn fail(h: Here, e: ParserError, taken: usize) -> Effect
     ensures { result ≡ taking taken (failing h e) }
 {
-    let context = h.context;
     Effect {
         taken,
-        count: h.count,
-        context,
-        gains: Gains::None,
-        error: OptionalError::Some(e),
+        error: Some(e),
+        ..keep(h)
     }
 }
 
@@ -122,43 +101,21 @@ impl Effect {
     pub(crate) fn take(self, n: usize) -> Effect
         ensures { result ≡ taking n self }
     {
-        let context = self.context;
-        let gains = self.gains;
-        let error = self.error;
-        Effect {
-            taken: n,
-            count: self.count,
-            context,
-            gains,
-            error,
-        }
+        Effect { taken: n, ..self }
     }
 
-    pub(crate) fn set_context(self, c: Context) -> Effect
-        ensures { result ≡ within c self }
+    pub(crate) fn set_context(self, context: Context) -> Effect
+        ensures { result ≡ within context self }
     {
-        let gains = self.gains;
-        let error = self.error;
-        Effect {
-            taken: self.taken,
-            count: self.count,
-            context: c,
-            gains,
-            error,
-        }
+        Effect { context, ..self }
     }
 
     pub(crate) fn set_error(self, e: ParserError) -> Effect
         ensures { result ≡ erring e self }
     {
-        let context = self.context;
-        let gains = self.gains;
         Effect {
-            taken: self.taken,
-            count: self.count,
-            context,
-            gains,
-            error: OptionalError::Some(e),
+            error: Some(e),
+            ..self
         }
     }
 }

@@ -1,6 +1,6 @@
 // The interval that a sign and a number name.
 ghost use Rattle.std.specs.Prelude.{◌≡◌};
-ghost use Rattle.step.specs.Interval.{interval_of};
+ghost use Rattle.step.specs.Interval.{found, interval_of};
 ghost use Rattle.note.specs.declared.RootModifier.TheVariants.{Natural, Sharp, Flat};
 
 use intervals::{
@@ -10,57 +10,54 @@ use intervals::{
 };
 use note::RootModifier;
 
-// What stands for no interval.
-pub(crate) const NO_INTERVAL: u8 = 23;
-
-fn natural(number: u8) -> u8
-    ensures { result ≡ interval_of Natural number }
+fn natural(number: u8) -> Option<u8>
+    ensures { result ≡ found (interval_of Natural number) }
 {
     match number {
-        1 => UNISON,
-        2 => MAJOR_SECOND,
-        3 => MAJOR_THIRD,
-        4 => PERFECT_FOURTH,
-        5 => PERFECT_FIFTH,
-        6 => MAJOR_SIXTH,
-        7 => MINOR_SEVENTH,
-        8 => OCTAVE,
-        9 => NINTH,
-        11 => ELEVENTH,
-        13 => THIRTEENTH,
-        _ => NO_INTERVAL,
+        1 => Some(UNISON),
+        2 => Some(MAJOR_SECOND),
+        3 => Some(MAJOR_THIRD),
+        4 => Some(PERFECT_FOURTH),
+        5 => Some(PERFECT_FIFTH),
+        6 => Some(MAJOR_SIXTH),
+        7 => Some(MINOR_SEVENTH),
+        8 => Some(OCTAVE),
+        9 => Some(NINTH),
+        11 => Some(ELEVENTH),
+        13 => Some(THIRTEENTH),
+        _ => None,
     }
 }
 
-fn sharp(number: u8) -> u8
-    ensures { result ≡ interval_of Sharp number }
+fn sharp(number: u8) -> Option<u8>
+    ensures { result ≡ found (interval_of Sharp number) }
 {
     match number {
-        4 => AUGMENTED_FOURTH,
-        5 => AUGMENTED_FIFTH,
-        9 => SHARP_NINTH,
-        11 => SHARP_ELEVENTH,
-        _ => NO_INTERVAL,
+        4 => Some(AUGMENTED_FOURTH),
+        5 => Some(AUGMENTED_FIFTH),
+        9 => Some(SHARP_NINTH),
+        11 => Some(SHARP_ELEVENTH),
+        _ => None,
     }
 }
 
-fn flat(number: u8) -> u8
-    ensures { result ≡ interval_of Flat number }
+fn flat(number: u8) -> Option<u8>
+    ensures { result ≡ found (interval_of Flat number) }
 {
     match number {
-        2 => MINOR_SECOND,
-        3 => MINOR_THIRD,
-        5 => DIMINISHED_FIFTH,
-        6 => MINOR_SIXTH,
-        7 => MINOR_SEVENTH,
-        9 => FLAT_NINTH,
-        13 => FLAT_THIRTEENTH,
-        _ => NO_INTERVAL,
+        2 => Some(MINOR_SECOND),
+        3 => Some(MINOR_THIRD),
+        5 => Some(DIMINISHED_FIFTH),
+        6 => Some(MINOR_SIXTH),
+        7 => Some(MINOR_SEVENTH),
+        9 => Some(FLAT_NINTH),
+        13 => Some(FLAT_THIRTEENTH),
+        _ => None,
     }
 }
 
-pub(crate) fn from_modifier_extension(modifier: RootModifier, number: u8) -> u8
-    ensures { result ≡ interval_of modifier number }
+pub(crate) fn from_modifier_extension(modifier: RootModifier, number: u8) -> Option<u8>
+    ensures { result ≡ found (interval_of modifier number) }
 {
     match modifier {
         RootModifier::Natural => natural(number),

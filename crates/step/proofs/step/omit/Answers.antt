@@ -1,6 +1,0 @@
--- The group, then the target.
--- Assumes nothing.
-use Rattle.step.proofs.step.omit.Goals as goal
-
-pub returns : goal.returns
-returns c = rw (c.set_context.ensures, c.omit_target.ensures, c.start_group-group.ensures, c.is_inside.ensures)
