@@ -1,28 +1,21 @@
--- What was written at the beginning of the lent list makes the outcome; and sound expressions by index.
+-- What was written at the beginning of the lent list makes the outcome.
 -- Assumes nothing.
 use mathlib.Core.Bool.{Bool, true, false, not}
-use mathlib.Core.List.{List, [], ◌∷◌, ◌++◌, map}
+use mathlib.Core.List.{List, [], ◌∷◌, ◌++◌}
 use mathlib.Core.Path.{◌≡◌, refl, sym, ap, subst, ◌∙◌}
 use Prim.Native.Nat.{ℕ, zero, suc, ◌+◌, ◌*◌, ◌≤◌, ◌<◌}
-use native.Mathlib.Nat.{not-suc-le-zero, le_of_suc-le-suc}
 use native.Mathlib.Omega.{arith}
 use lib.ListN.{length, take, drop}
 use lib.Seq.{length-take-le}
 use Rattle.chord.specs.Chord.{four_of, no_chord, record_of}
 use Rattle.note.specs.Note.{OptionalNote}
 use Rattle.expression.proofs.AllNumbers.{all-length}
-use Rattle.expression.specs.Expression.{exp_of}
 use Rattle.expression.specs.ParserError.{all_numbers}
 use Rattle.expression.specs.declared.parser_error.ParserError.{ParserError}
 use Rattle.expression.specs.declared.expression.Exp.{Exp}
 use Rattle.token.specs.Token.{Token}
-use Rattle.expression.specs.Bounds.{Sound}
-use Rattle.evaluator.specs.State.{Sounds}
-use Rattle.parser.specs.All.{All}
-use Rattle.reader.specs.Reader.{ReadOutcome, count_of, judge, number_of, parsed, refused, validated}
+use Rattle.reader.specs.Reader.{Answer, ReadOutcome, Reading, count_of, judge, number_of, parsed, refused, validated}
 use Rattle.reader.specs.State.{ReadGave}
-use Rattle.reader.specs.declared.Answer.{Answer}
-use Rattle.reader.specs.declared.Reading.{Reading}
 
 parted : (n : ℕ) (l : List ℕ) → l ≡ take n l ++ drop n l
 parted zero l = refl
@@ -73,11 +66,6 @@ gave_no_chord {o} {k} {a} {r} es e n m h c w =
 -- the same of an outcome that is equal
 pub gave_same : {o o' : ReadOutcome} {r : Reading} {es es' : List ℕ} → o ≡ o' → ReadGave o' r es es' → ReadGave o r es es'
 gave_same {o} {o'} {r} {es} {es'} e g = subst (λ (x : ReadOutcome). ReadGave x r es es') (sym e) g
-
-pub sounds-all : (ys : List ℕ) → All Sound (map exp_of ys) → Sounds ys
-sounds-all [] a i h = absurd (not-suc-le-zero h)
-sounds-all (y ∷ ys) a zero h = a.0
-sounds-all (y ∷ ys) a (suc i) h = sounds-all ys a.1 i (le_of_suc-le-suc h)
 
 -- the same of a root, expressions and a list that are equal
 pub as_is : {root root' : OptionalNote} {l l' : List Exp} {r : Reading} {e e' es : List ℕ} → root ≡ root' → l ≡ l' → e ≡ e' → ReadGave (validated root l) r e es → ReadGave (validated root' l') r e' es

@@ -1,6 +1,7 @@
 -- Reading a card: the five questions of document 01, in their order, and document 02's blank texts, over the definitions of the layers.
-use Rattle.std.specs.Prelude.{Bool, true, cond, ◌&&◌, List, [], ◌∷◌, ◌≡◌, ℕ, eqb, ltb, length}
-use Rattle.chord.specs.Chord.{Four, no_chord}
+use Rattle.std.specs.Prelude.{Option, Some, None, Result, Ok, Err, Bool, true, cond, ◌&&◌, List, [], ◌∷◌, ◌≡◌, ℕ, eqb, ltb, length}
+use Rattle.chord.specs.Chord.{Four, no_chord, record_of}
+use Rattle.chord.specs.declared.Chord.{Chord}
 use Rattle.note.specs.Note.{OptionalNote}
 use Rattle.display.specs.Display.{display_of, first_sus}
 use Rattle.evaluator.specs.Evaluator.{eval_set, slash_bass}
@@ -13,25 +14,41 @@ use Rattle.parser.specs.Parser.{parse_of, root_of}
 use Rattle.token.specs.Token.{Token}
 use Rattle.utf8.specs.Utf8.{well_formed}
 use Rattle.validator.specs.Validator.{validation_of}
-use Rattle.reader.specs.declared.Answer.TheVariants.{Accepted, ShortList, LongText, NotUtf8, Parse, Validation}
-use Rattle.reader.specs.declared.Answer.{Answer}
+use Rattle.reader.specs.declared.Refusal.TheVariants.{ShortList, LongText, NotUtf8, Parse, Validation}
+use Rattle.reader.specs.declared.Refusal.{Refusal}
+
+-- the answer to a text: that it is accepted, or why it is not
+abbrev pub Answer : Type 0
+Answer = Option Refusal
+
+abbrev pub Accepted : Answer
+Accepted = None
+
+-- what a reading shows: the answer, and the record; that of no chord where the text is not accepted
+pub record Reading : Type 0 where
+  pub answer : Answer
+  pub chord : Chord
+
+abbrev pub reading_of : Result Chord Refusal → Reading
+reading_of (Ok c) = record { answer = Accepted; chord = c }
+reading_of (Err e) = record { answer = Some e; chord = record_of no_chord }
 
 -- the paper's number of an answer, 0 for an accepted text, and the count of errors that 4 and 5 carry
 abbrev pub number_of : Answer → ℕ
-number_of Accepted = 0
-number_of ShortList = 1
-number_of LongText = 2
-number_of NotUtf8 = 3
-number_of (Parse n) = 4
-number_of (Validation n) = 5
+number_of None = 0
+number_of (Some ShortList) = 1
+number_of (Some LongText) = 2
+number_of (Some NotUtf8) = 3
+number_of (Some (Parse n)) = 4
+number_of (Some (Validation n)) = 5
 
 abbrev pub count_of : Answer → ℕ
-count_of Accepted = 0
-count_of ShortList = 0
-count_of LongText = 0
-count_of NotUtf8 = 0
-count_of (Parse n) = n
-count_of (Validation n) = n
+count_of None = 0
+count_of (Some ShortList) = 0
+count_of (Some LongText) = 0
+count_of (Some NotUtf8) = 0
+count_of (Some (Parse n)) = n
+count_of (Some (Validation n)) = n
 
 -- what reading gives: the paper's number and count, the four, and what the lent list begins with after it
 pub record ReadOutcome : Type 0 where

@@ -3,9 +3,8 @@ use Rattle.std.specs.Prelude.{List, ◌++◌, ◌≡◌, ℕ, ◌≤◌, drop, l
 use Rattle.chord.specs.Chord.{four_of, record_of}
 use Rattle.folding.specs.Folding.{pre_process}
 use Rattle.lexer.specs.Lexer.{tokens_of}
-use Rattle.token.specs.Token.{Ranged, Room, rows}
-use Rattle.reader.specs.Reader.{ReadOutcome, count_of, number_of, read_of}
-use Rattle.reader.specs.declared.Reading.{Reading}
+use Rattle.token.specs.Token.{Ranged, Room, Token}
+use Rattle.reader.specs.Reader.{ReadOutcome, Reading, count_of, number_of, read_of}
 
 pub record ReadGave (o : ReadOutcome) (r : Reading) (es es' : List ℕ) : Type 0 where
   pub number : number_of r.answer ≡ o.number
@@ -19,8 +18,8 @@ abbrev pub Read : (text es es' : List ℕ) → Reading → Type 0
 Read text es es' r = ReadGave (read_of (length es) text) r es es'
 
 -- bookkeeping of a private contract: the first e tokens are those of the text, folded
-pub record Tokenized (text : List ℕ) (e : ℕ) (ks ps ls : List ℕ) : Type 0 where
+pub record Tokenized (text : List ℕ) (e : ℕ) (ts : List Token) : Type 0 where
   pub few : e ≤ 257
-  pub room : Room e ks ps ls
-  pub list : take e (rows ks ps ls) ≡ pre_process (tokens_of text)
-  pub ranged : Ranged 1000 1000 (take e (rows ks ps ls))
+  pub room : Room e ts
+  pub list : take e ts ≡ pre_process (tokens_of text)
+  pub ranged : Ranged 1000 1000 (take e ts)
