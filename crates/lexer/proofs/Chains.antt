@@ -4,16 +4,17 @@
 -- Assumes nothing.
 use mathlib.Core.Bool.{Bool, true, false, ◌&&◌, ◌||◌, cond, and-false, true≢false}
 use mathlib.Core.List.{List, [], ◌∷◌}
-use mathlib.Core.Path.{◌≡◌, refl, sym, ap, ap₂, ◌∙◌}
+use mathlib.Core.Path.{◌≡◌, refl, sym, ap, ap₂, ◌∙◌, subst}
 use Prim.Native.Nat.{ℕ, zero, suc, ◌+◌, ◌-◌, ◌*◌, ◌≤◌, ◌<◌}
 use native.Mathlib.Numerals.{add-one}
 use native.Mathlib.Omega.{arith}
 use lib.Dec.{eqb, ltb}
 use lib.ListN.{length, get_or, drop, length-drop, drop_of_length-le}
 use lib.Seq.{drop-cons, drop-drop, get_or-drop}
-use borrow.Author.Tests.{lt-ltb, le-ltb, eq-eqb, ne_eqb, eqb-true, ltb-true, ltb-false}
+use borrow.Author.Tests.{lt-ltb, le-ltb, eq-eqb, ne_eqb, eqb-true, eqb-false, ltb-true, ltb-false}
+use Rattle.std.specs.Prelude.{Option, Some, None, unwrap_or}
 use Rattle.utf8.specs.Utf8.{begins}
-use Rattle.lexer.specs.State.{initial, letters_in, longest_word, place_of, or_place, place_down, nexts_from, next_places, word_at}
+use Rattle.lexer.specs.State.{other_than, found_word, initial, letters_in, longest_word, place_of, or_place, place_down, nexts_from, next_places, word_at}
 use Rattle.lexer.specs.Words.{Word, word, words, match, no_match, run_end, word_to, or_shorter, by_ends, word_by_ends}
 use Rattle.lexer.specs.declared.Match.{Match}
 use Rattle.lexer.proofs.Runs.{begins_fits, ends_limited, word_fits, words_count}
@@ -295,3 +296,48 @@ module _ (s : List ℕ) (i : ℕ) (c : Chosen s i) (h : i < 55) where
 
 pub chosen-end : (s : List ℕ) (i : ℕ) → Chosen s i → 55 ≤ i → no_match ≡ word_by_ends s
 chosen-end s i c h = sym (c.rest ∙ rw (le-ltb i (length words) (omega (arith, words_count))))
+
+-- the place to try, if there is one, is below 55
+pub record Trying (s : List ℕ) (next : Option ℕ) : Type 0 where
+  pub chosen : Chosen s (unwrap_or next 55)
+  pub listed : (i : ℕ) → next ≡ Some i → i < 55
+
+pub trying : {s : List ℕ} {next : Option ℕ} (i : ℕ) → next ≡ other_than 55 i → Chosen s i → Trying s next
+trying {s} i e c = subst (Trying s) (sym e) (go (eqb i 55) refl)
+  where
+    go : (x : Bool) → eqb i 55 ≡ x → Trying s (cond x None (Some i))
+    go true h = record { chosen = subst (Chosen s) (eqb-true i 55 h) c; listed = λ j q. absurd (cc) }
+    go false h = record { chosen = c; listed = λ j q. let k : i ≡ j = cc in omega (arith, c.within, eqb-false i 55 h) }
+
+-- what the measure is of
+pub place_left : (i : ℕ) → unwrap_or (other_than 55 i) 55 ≡ i
+place_left i = go (eqb i 55) refl
+  where
+    go : (x : Bool) → eqb i 55 ≡ x → unwrap_or (cond x None (Some i)) 55 ≡ i
+    go true h = sym (eqb-true i 55 h)
+    go false h = refl
+
+-- the place that is tried has a word
+module _ {s : List ℕ} {next : Option ℕ} {i : ℕ} (t : Trying s next) (e : next ≡ Some i) where
+  pub tried_in : i < 55
+  tried_in = t.listed i e
+
+  pub tried_here : Chosen s i
+  tried_here = subst (λ (o : Option ℕ). Chosen s (unwrap_or o 55)) e t.chosen
+
+  pub tried_step : begins (word_at i).text s ≡ false → {o : Option ℕ} → o ≡ other_than 55 (get_or next_places i 0) → Trying s o
+  tried_step f q = trying (get_or next_places i 0) q (chosen-step s i tried_here tried_in f)
+
+  pub tried_falls : {o : Option ℕ} → o ≡ other_than 55 (get_or next_places i 0) → rank (unwrap_or o 55) < rank (unwrap_or next 55)
+  tried_falls q = rw (q, e, place_left) (chosen-falls s i tried_here tried_in)
+
+  pub tried_found : begins (word_at i).text s ≡ true → Some (match (letters_in (word_at i)) (word_at i).kind) ≡ found_word (word_by_ends s)
+  tried_found f =
+      let m = match (letters_in (word_at i)) (word_at i).kind in
+      let n : found_word m ≡ Some m = rw (ne_eqb m.len 0 (λ z. omega (arith, (word_fits i tried_in).some))) in
+      sym n ∙ ap found_word (chosen_hit s i tried_here tried_in f)
+
+pub tried_none : {s : List ℕ} {next : Option ℕ} → Trying s next → next ≡ None → None ≡ found_word (word_by_ends s)
+tried_none {s} t e =
+    let c : Chosen s 55 = subst (λ (o : Option ℕ). Chosen s (unwrap_or o 55)) e t.chosen in
+    ap found_word (chosen-end s 55 c (omega arith))

@@ -1,20 +1,22 @@
 -- What a text begins with: a letter goes by one byte, since it is a byte below 128 and a character that begins with another byte is 128 or
 -- more; a letter begins a run, whose word is the head; and how many bytes a head has.
 -- Assumes nothing.
-use mathlib.Core.Bool.{Bool, true, false, cond}
+use mathlib.Core.Bool.{Bool, true, false, ◌&&◌, cond}
 use mathlib.Core.List.{List, [], ◌∷◌, ◌++◌}
 use mathlib.Core.Path.{◌≡◌, refl, sym, ap, ◌∙◌, subst}
-use Prim.Native.Nat.{ℕ, ◌+◌, ◌*◌, ◌-◌, ◌≤◌, ◌<◌}
+use Prim.Native.Nat.{ℕ, suc, ◌+◌, ◌*◌, ◌-◌, ◌≤◌, ◌<◌}
 use native.Mathlib.Decide.{dec_le}
 use native.Mathlib.Omega.{arith}
-use lib.Dec.{T, eqb, ltb}
+use lib.Dec.{T, eqb, leb, ltb}
 use lib.ListN.{length, get_or, drop, length-drop}
-use borrow.Author.Tests.{le-leb, lt-leb, lt-ltb, le-ltb, ne_eqb, eqb-false}
+use borrow.Author.Tests.{le-leb, lt-leb, lt-ltb, le-ltb, ne_eqb, eqb-true, eqb-false, leb-true}
 use Rattle.intervals.specs.Interval.{elem}
+use Rattle.std.specs.Prelude.{Option, Some, None}
 use Rattle.utf8.specs.Utf8.{char_of}
 use Rattle.utf8.specs.declared.Found.TheVariants as utf8
 use Rattle.utf8.specs.declared.Found.{Found}
-use Rattle.lexer.specs.Lexer.{raised_numerals, place_in, is_digit, digit_of, two_digits, one_digit, number_by, word_head, sign_head, sign_of, head_by, head_of, size_of}
+use Rattle.lexer.specs.Lexer.{raised_numerals, place_in, is_digit, digit_of, two_digits, one_digit, number_head, number_by, word_head, sign_head, sign_of, head_by, head_of, size_of}
+use Rattle.lexer.specs.State.{other_than, digit_in_or, bytes_in_or, digit_found}
 use Rattle.lexer.specs.Words.{is_letter, run_end, word_by_ends, words}
 use Rattle.lexer.specs.declared.Head.TheVariants as head
 use Rattle.lexer.specs.declared.Head.{Head}
@@ -97,6 +99,57 @@ module _ (c : ℕ) {d : ℕ} (e : d ≡ digit_of c) where
 -- one digit alone makes no number of two
 lone : (d : ℕ) → elem (10 * d + 10) two_digits ≡ false
 lone d = rw (ne_eqb (10 * d + 10) 11 (λ e. omega arith), ne_eqb (10 * d + 10) 13 (λ e. omega arith))
+
+-- a digit is at most 9, and 10 stands for none
+digit_small : (c : ℕ) → digit_of c ≤ 10
+unfolding digit_of
+digit_small c = go (leb 48 c) (leb c 57) refl
+  where
+    place_small : (l : List ℕ) → place_in l c ≤ length l
+    place_small [] = omega arith
+    place_small (d ∷ l) = at (eqb c d) (place_small l)
+      where
+        at : (b : Bool) → place_in l c ≤ length l → cond b 0 (suc (place_in l c)) ≤ suc (length l)
+        at true h = omega arith
+        at false h = omega arith
+
+    go : (x y : Bool) → leb c 57 ≡ y → cond (x && y) (c - 48) (place_in raised_numerals c) ≤ 10
+    go true true e = omega (arith, leb-true c 57 e)
+    go true false e = place_small raised_numerals
+    go false y e = place_small raised_numerals
+
+-- the digit that was found is that of the character
+pub digit_some : (c : ℕ) {d : ℕ} → Some d ≡ other_than 10 (digit_of c) → (d ≡ digit_of c) × (d < 10)
+digit_some c {d} e = go (eqb (digit_of c) 10) refl e
+  where
+    go : (b : Bool) → eqb (digit_of c) 10 ≡ b → Some d ≡ cond b None (Some (digit_of c)) → (d ≡ digit_of c) × (d < 10)
+    go true h f = absurd (cc)
+    go false h f = let g : d ≡ digit_of c = cc in (g, omega (arith, g, digit_small c, eqb-false _ _ h))
+
+-- the digit behind another: its size, and the number that the two begin with
+module _ {r : Option (ℕ × ℕ)} where
+  pub behind_small : (s : List ℕ) → r ≡ digit_found (char_of s) → length s ≤ 256 → (digit_in_or r ≤ 10) × (bytes_in_or r ≤ 256)
+  behind_small s e h = rw e (go (char_of s) refl)
+    where
+      with : (c n : ℕ) → n ≤ 256 → (b : Bool)
+          → (digit_in_or (cond b None (Some (digit_of c, n))) ≤ 10) × (bytes_in_or (cond b None (Some (digit_of c, n))) ≤ 256)
+      with c n l true = (omega arith, omega arith)
+      with c n l false = (digit_small c, l)
+
+      go : (f : Found) → char_of s ≡ f → (digit_in_or (digit_found f) ≤ 10) × (bytes_in_or (digit_found f) ≤ 256)
+      go (utf8.Char c n) q = with c n (omega (arith, found_within s c n q)) (eqb (digit_of c) 10)
+      go utf8.Bad q = (omega arith, omega arith)
+      go utf8.End q = (omega arith, omega arith)
+
+  pub behind_head : (d n : ℕ) (f : Found) → r ≡ digit_found f → number_head d n (digit_in_or r) (bytes_in_or r) ≡ number_by d n f
+  behind_head d n (utf8.Char c m) e = rw e (go (eqb (digit_of c) 10) refl)
+    where
+      go : (b : Bool) → eqb (digit_of c) 10 ≡ b
+          → (let q = cond {A = Option (ℕ × ℕ)} b None (Some (digit_of c, m)) in number_head d n (digit_in_or q) (bytes_in_or q) ≡ number_head d n (digit_of c) m)
+      go true h = rw (eqb-true _ _ h, lone d)
+      go false h = refl
+  behind_head d n utf8.Bad e = rw e
+  behind_head d n utf8.End e = rw e
 
 -- the length of a head's token, 0 for none
 abbrev pub length_of : Head → ℕ

@@ -7,7 +7,8 @@ use Prim.Native.Nat.{ℕ, zero, suc, ◌+◌, ◌-◌, ◌≤◌, ◌<◌}
 use native.Mathlib.Omega.{arith}
 use lib.ListN.{length, take}
 use lib.Seq.{get_or-take}
-use Rattle.token.specs.Token.{Token, token, at, Ranged}
+use Rattle.token.specs.Token.{token, at, Ranged}
+use Rattle.token.specs.declared.Token.{Token}
 use Rattle.lexer.specs.Lexer.{head_of, emit, lex, end_of, tokens_of}
 use Rattle.lexer.specs.State.{Written, Scanned}
 use Rattle.lexer.specs.declared.Head.TheVariants as head

@@ -2,7 +2,7 @@
 -- long. So no word ends behind the run of a text, and none behind ten letters: trying every end of the run finds what trying the first
 -- ten finds (`ends_limited`), since an end at which no word ends can be skipped (`skip`).
 -- Assumes nothing.
-use mathlib.Core.Bool.{Bool, true, false, ◌&&◌, cond, true≢false, false≢true, and-false}
+use mathlib.Core.Bool.{Bool, true, false, not, ◌&&◌, cond, true≢false, false≢true, and-false}
 use mathlib.Core.List.{List, [], ◌∷◌}
 use mathlib.Core.Path.{◌≡◌, refl, sym, ap, ◌∙◌}
 use Prim.Native.Nat.{ℕ, zero, suc, ◌+◌, ◌-◌, ◌≤◌, ◌<◌}
@@ -10,11 +10,14 @@ use native.Mathlib.Decide.{dec_le}
 use native.Mathlib.Nat.{add-zero, add-suc}
 use native.Mathlib.Numerals.{add-one}
 use native.Mathlib.Omega.{arith}
-use lib.Dec.{T, eqb, leb, leb→le, eqb→eq}
+use lib.Dec.{T, eqb, leb, ltb, leb→le, eqb→eq}
 use lib.ListN.{length, get_or, drop, drop_of_length-le}
 use lib.Seq.{drop-cons}
-use borrow.Author.Tests.{eqb-true, ne_eqb}
+use borrow.Author.Tests.{eqb-true, ltb-false, ne_eqb}
 use mir.Facts.{and_yes}
+use Rattle.std.specs.Prelude.{Option, Some, None, unwrap_or}
+use Rattle.std.specs.List.{position_or_len}
+use Rattle.std.proofs.lemmas.List.Recursion.{is_position_or_len}
 use Rattle.utf8.specs.Utf8.{begins}
 use Rattle.lexer.specs.State.{word_at}
 use Rattle.lexer.specs.Words.{Word, word, words, match, no_match, is_letter, run_end, word_to, by_ends, word_by_ends}
@@ -61,6 +64,27 @@ module _ (s : List ℕ) (i : ℕ) (h : i < length s) where
 
   pub run_turn : is_letter (get_or s i 0) ≡ true → run_end (drop i s) ≡ suc (run_end (drop (i + 1) s))
   run_turn e = rw (drop-cons s i 0 h, add-one i) (run_more (get_or s i 0) (drop (suc i) s) e)
+
+-- a run ends at the first that is no letter
+run_position : (s : List ℕ) → run_end s ≡ position_or_len (λ b. not (is_letter b)) s
+unfolding run_end
+run_position s = is_position_or_len run_end (λ b. not (is_letter b)) refl (λ b t. go (is_letter b) (run_end t)) s
+  where
+    go : (x : Bool) (n : ℕ) → cond x (suc n) 0 ≡ cond (not x) 0 (1 + n)
+    go true n = omega arith
+    go false n = refl
+
+pub run_found : (s : List ℕ) (r : Option ℕ)
+    → (let n = position_or_len (λ b. not (is_letter b)) s in r ≡ cond (ltb n (length s)) (Some n) None)
+    → unwrap_or r (length s) ≡ run_end s
+run_found s r e = rw e (go (ltb n (length s)) refl)
+  where
+    n : ℕ
+    n = position_or_len (λ b. not (is_letter b)) s
+
+    go : (x : Bool) → ltb n (length s) ≡ x → unwrap_or (cond x (Some n) None) (length s) ≡ run_end s
+    go true h = sym (run_position s)
+    go false h = omega (arith, ltb-false _ _ h, run_position s, run_within s)
 
 -- behind letters of a run the rest of it stands
 pub run_drop : (n : ℕ) (s : List ℕ) → n ≤ run_end s → run_end s ≡ n + run_end (drop n s)

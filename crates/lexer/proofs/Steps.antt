@@ -11,12 +11,15 @@ use native.Mathlib.Omega.{arith}
 use lib.Dec.{T}
 use lib.ListN.{length, take, drop, set, length-append, drop_of_length-le, length-drop}
 use lib.Seq.{slice, slice_empty, drop-cons, drop-drop, take-take, take_at, drop_at, length-take-le, take-suc-set, drop-set-lt}
-use Rattle.token.specs.Token.{Token, token, Room}
+use Rattle.std.specs.Prelude.{Some}
+use Rattle.token.specs.Token.{token, Room}
+use Rattle.token.specs.declared.Token.{Token}
 use Rattle.lexer.specs.Lexer.{head_of, emit, illegal, lex, size_of, word_head}
-use Rattle.lexer.specs.State.{plan_of, all_tokens, Few, Inserted, Emitted, Went, Written, scan}
+use Rattle.lexer.specs.State.{plan_of, Adds, all_tokens, Few, Inserted, Emitted, Went, Written, scan}
 use Rattle.lexer.specs.Words.{run_end, word_by_ends}
 use Rattle.lexer.specs.declared.Head.TheVariants as head
 use Rattle.lexer.specs.declared.Head.{Head}
+use Rattle.lexer.specs.declared.Added.{Added}
 use Rattle.lexer.specs.declared.Plan.{Plan}
 use Rattle.lexer.specs.declared.Scan.{Scan}
 use Rattle.lexer.proofs.Heads.{Sized, head_sized, letter_head, word-within}
@@ -86,20 +89,20 @@ module _ (text : List ℕ) (s : Scan) (R R' : List Token) (F : Few text s) (l : 
 
   pub step-whole : (h : Head) → h ≡ head_of (drop s.at text) → 1 ≤ size_of h → s.count + 1 ≤ length R → Emitted h s (plan_of h s).next R R' → all_tokens text (plan_of h s).next R' ≡ all_tokens text s R
   step-whole head.Space e o b E =
-      let z = E.none refl in
+      let z = E.adds in
       ap (λ r. take s.count r ++ lex 0 (slice s.count s.count r) (s.at + 1) (drop (s.at + 1) text)) z
       ∙ ap₂ (λ f h. f ++ lex 0 h (s.at + 1) (drop (s.at + 1) text)) all (slice_empty s.count R)
       ∙ append_assoc (take s.held R) (slice s.held s.count R) (lex 0 [] (s.at + 1) (drop (s.at + 1) text))
       ∙ sym (before-step head.Space e)
-  step-whole (head.Sign k n) e o b E = at-end (token k s.at 1) n o b (E.one refl) ∙ sym (before-step (head.Sign k n) e)
-  step-whole (head.Word k n) e o b E = at-end (token k s.at n) n o b (E.one refl) ∙ sym (before-step (head.Word k n) e)
+  step-whole (head.Sign k n) e o b E = at-end (token k s.at 1) n o b E.adds ∙ sym (before-step (head.Sign k n) e)
+  step-whole (head.Word k n) e o b E = at-end (token k s.at n) n o b E.adds ∙ sym (before-step (head.Word k n) e)
   step-whole (head.Number k t n) e o b E =
-      ap₂ (λ f h. f ++ lex 0 h (s.at + n) (drop (s.at + n) text)) (front_new F.among b (E.one refl)) (back F.among b (E.one refl))
+      ap₂ (λ f h. f ++ lex 0 h (s.at + n) (drop (s.at + n) text)) (front_new F.among b E.adds) (back F.among b E.adds)
       ∙ append_assoc (take s.held R) (token k s.at t ∷ []) (lex 0 (slice s.held s.count R) (s.at + n) (drop (s.at + n) text))
       ∙ ap (λ r. take s.held R ++ (token k s.at t ∷ r)) (sym (go_on text s.at n (slice s.held s.count R) o))
       ∙ sym (before-step (head.Number k t n) e)
   step-whole (head.Digit n) e o b E =
-      ap₂ (λ f h. f ++ lex 0 h (s.at + n) (drop (s.at + n) text)) (front F.among b (E.one refl)) (back_new F.among b (E.one refl))
+      ap₂ (λ f h. f ++ lex 0 h (s.at + n) (drop (s.at + n) text)) (front F.among b E.adds) (back_new F.among b E.adds)
       ∙ ap (λ r. take s.held R ++ r) (sym (go_on text s.at n (token illegal s.at 1 ∷ slice s.held s.count R) o))
       ∙ sym (before-step (head.Digit n) e)
 
@@ -113,11 +116,11 @@ module _ (text : List ℕ) (s : Scan) (R R' : List Token) (F : Few text s) (l : 
 
   -- what lies beyond the tokens is untouched
   pub step-rest : (h : Head) → Emitted h s (plan_of h s).next R R' → drop (plan_of h s).next.count R' ≡ drop (plan_of h s).next.count R
-  step-rest head.Space E = ap (drop s.count) (E.none refl)
-  step-rest (head.Sign k n) E = (E.one refl).rest
-  step-rest (head.Word k n) E = (E.one refl).rest
-  step-rest (head.Number k t n) E = (E.one refl).rest
-  step-rest (head.Digit n) E = (E.one refl).rest
+  step-rest head.Space E = ap (drop s.count) E.adds
+  step-rest (head.Sign k n) E = E.adds.rest
+  step-rest (head.Word k n) E = E.adds.rest
+  step-rest (head.Number k t n) E = E.adds.rest
+  step-rest (head.Digit n) E = E.adds.rest
 
   pub step_count : (h : Head) → s.count ≤ (plan_of h s).next.count
   step_count head.Space = omega arith
@@ -148,9 +151,9 @@ module _ {text : List ℕ} {s : Scan} {h : Head} (F : Few text s) (l : s.at < le
       (z.some, omega (arith, z.within))
 
   -- what `emit` asks for
-  pub step_asks : {ks ps ls : List ℕ} → length text ≤ 256 → Room (length text) ks ps ls
-      → (s.at + size_of h ≤ 256) × (s.held ≤ s.count) × (s.count ≤ 256) × Room (s.count + 1) ks ps ls
-  step_asks z r = (omega (arith, step_head.1), F.among, omega (arith, F.some, F.within), omega (arith, F.some, r))
+  pub step_asks : (R : List Token) → length text ≤ 256 → Room (length text) R
+      → (s.at + size_of h ≤ 256) × (s.held ≤ s.count) × (s.count ≤ 256) × Room (s.count + 1) R
+  step_asks R z r = (omega (arith, step_head.1), F.among, omega (arith, F.some, F.within), omega (arith, F.some, r))
 
   -- one head
   pub step_went : {s' : Scan} {R R' : List Token} → s.count + 1 ≤ length R → Emitted h s s' R R' → Went text s s' R R'
@@ -209,14 +212,6 @@ went-end text s R₀ R W l b =
     ∙ W.list in
     record { count = sym (length-take-le s.count R b) ∙ ap length e; list = e; rest = W.rest }
 
--- the place of a plan is among the tokens
-pub place-low : (h : Head) (s : Scan) → s.held ≤ s.count → (plan_of h s).place ≤ s.count
-place-low head.Space s h = omega arith
-place-low (head.Sign k n) s h = omega arith
-place-low (head.Word k n) s h = omega arith
-place-low (head.Number k t n) s h = h
-place-low (head.Digit n) s h = h
-
 -- one more token behind those that were written
 pub written-more : {ts : List Token} {n : ℕ} {R₀ R R' : List Token} (t : Token) → n + 1 ≤ length R → Written ts n R₀ R → R' ≡ set R n t → Written (ts ++ (t ∷ [])) (n + 1) R₀ R'
 written-more {ts} {n} {R₀} {R} {R'} t b W e =
@@ -225,21 +220,3 @@ written-more {ts} {n} {R₀} {R} {R'} t b W e =
       list = ap (take (n + 1)) e ∙ rw add-one (take-suc-set R n t (omega arith) ∙ ap (λ l. l ++ (t ∷ [])) W.list);
       rest = ap (drop (n + 1)) e ∙ drop-set-lt (n + 1) R n t (omega arith) ∙ later R R₀ n (n + 1) (omega arith) W.rest;
     }
-
--- a plan that was carried out
-module _ {h : Head} {s : Scan} {p : Plan} (e : p ≡ plan_of h s) where
-  pub did_nothing : (R : List Token) → p.adds ≡ false → Emitted h s p.next R R
-  did_nothing R z =
-      record {
-        state = ap (λ q. q.next) e;
-        none = λ y. refl;
-        one = λ y. absurd (subst T (sym y ∙ ap (λ q. q.adds) (sym e) ∙ z) tt);
-      }
-
-  pub did_insert : {R R' : List Token} → p.adds ≡ true → Inserted (token p.kind p.pos p.len) p.place s.count R R' → Emitted h s p.next R R'
-  did_insert {R} {R'} z I =
-      record {
-        state = ap (λ q. q.next) e;
-        none = λ y. absurd (subst T (sym z ∙ ap (λ q. q.adds) e ∙ y) tt);
-        one = λ y. subst (λ q. Inserted (token q.kind q.pos q.len) q.place s.count R R') e I;
-      }

@@ -1,24 +1,20 @@
--- The word list: the lent tables hold it row by row, and one turn of the loop over a word's letters is a step of the definition.
+-- The word list: the table holds it row by row, and a word stands at a place of a text if it stands in the part that no word passes.
 -- Assumes nothing.
-use mathlib.Core.Bool.{true, false, ◌&&◌}
-use mathlib.Core.List.{List, [], ◌∷◌, map, zip_with}
+use mathlib.Core.Bool.{Bool, true, false, ◌&&◌, false≢true, and-false}
+use mathlib.Core.List.{List, [], ◌∷◌, zip_with}
 use mathlib.Core.Path.{◌≡◌, refl, sym, ap, ◌∙◌}
-use Prim.Native.Nat.{ℕ, zero, suc, ◌+◌, ◌≤◌, ◌<◌}
-use native.Mathlib.Numerals.{add-one}
+use Prim.Native.Nat.{ℕ, zero, suc, ◌+◌, ◌≤◌, ◌<◌, min}
 use native.Mathlib.Omega.{arith}
 use lib.Dec.{eqb}
-use lib.ListN.{length, get_or, drop, drop_of_length-le, get_or-append}
-use lib.Seq.{drop-cons}
-use borrow.Author.Tests.{eq-eqb, ne_eqb}
+use lib.Seq.{take_at}
+use lib.ListN.{length, get_or, take, drop}
+use Rattle.std.specs.Cmp.Lexicographic.{pointwise}
 use Rattle.utf8.specs.Utf8.{begins}
-use Rattle.lexer.specs.State.{Tables, padded, info, nexts_from, next_places, word_at}
-use Rattle.lexer.specs.Words.{Word, word, words}
-use Rattle.lexer.proofs.Runs.{words_count}
-
-at_map : {A : Type 0} (f : Word → A) (l : List Word) (i : ℕ) (d : Word) (e : A) → i < length l → get_or (map f l) i e ≡ f (get_or l i d)
-at_map f [] i d e h = absurd (omega arith)
-at_map f (w ∷ l) zero d e h = refl
-at_map f (w ∷ l) (suc i) d e h = at_map f l i d e (omega arith)
+use Rattle.lexer.specs.State.{longest_word, nexts_from, next_places, row, row_at, word_at, word_rows}
+use Rattle.lexer.specs.Words.{Word, word, words, run_end}
+use Rattle.lexer.specs.declared.Row.{Row}
+use Rattle.lexer.proofs.Chains.{longest_is}
+use Rattle.lexer.proofs.Runs.{begins_fits, word_fits, words_count}
 
 at_zip : {A : Type 0} (f : Word → ℕ → A) (l : List Word) (ns : List ℕ) (i : ℕ) (d : Word) (e : A) → i < length l → i < length ns → get_or (zip_with f l ns) i e ≡ f (get_or l i d) (get_or ns i 0)
 unfolding zip_with
@@ -32,32 +28,40 @@ nexts_count : length next_places ≡ 55
 unfolding words nexts_from
 nexts_count = refl
 
-module _ (i : ℕ) (h : i < 55) where
-  in_list_lem : i < length words
-  in_list_lem = omega (arith, words_count)
+pub row-is : (i : ℕ) → i < 55 → (d : Row) → get_or word_rows i d ≡ row_at i
+row-is i h d = at_zip row words next_places i (word [] 0) d (omega (arith, words_count)) (omega (arith, nexts_count))
 
-  -- the letters of a word come first in its row
-  pub letter-is : (j : ℕ) → j < length (word_at i).text → get_or (get_or (map padded words) i []) j 0 ≡ get_or (word_at i).text j 0
-  letter-is j k =
-      ap (λ l. get_or l j 0) (at_map padded words i (word [] 0) [] in_list_lem)
-      ∙ get_or-append (word_at i).text _ 0 j k
+-- what comparing the first letters says
+compared : (p s : List ℕ) → pointwise eqb p (take (length p) s) ≡ begins p s
+compared [] s = refl
+compared (x ∷ p) [] = refl
+compared (x ∷ p) (y ∷ s) = ap (λ (b : Bool). eqb x y && b) (compared p s)
 
-  -- the row of a word: its length, its type's number and its next place
-  pub info-is : {ws is : List (List ℕ)} → Tables ws is → (j : ℕ) → get_or (get_or is i []) j 0 ≡ get_or (info (word_at i) (get_or next_places i 0)) j 0
-  info-is t j = ap (λ l. get_or (get_or l i []) j 0) t.infos ∙ ap (λ l. get_or l j 0) (at_zip info words next_places i (word [] 0) [] in_list_lem (omega (arith, nexts_count)))
+-- a text begins with p where a first part of it does, if p is no longer than that
+within_front : (p s : List ℕ) (m : ℕ) → (begins p s ≡ true → length p ≤ m) → begins p (take m s) ≡ begins p s
+within_front [] s m h = refl
+within_front (x ∷ p) [] zero h = refl
+within_front (x ∷ p) [] (suc m) h = refl
+within_front (x ∷ p) (y ∷ s) zero h = go (eqb x y && begins p s) h
+  where
+    go : (b : Bool) → (b ≡ true → suc (length p) ≤ 0) → false ≡ b
+    go true f = absurd (omega (arith, f refl))
+    go false f = refl
+within_front (x ∷ p) (y ∷ s) (suc m) h = go (eqb x y) h (within_front p s m)
+  where
+    go : (b : Bool) → ((b && begins p s) ≡ true → suc (length p) ≤ suc m) → ((begins p s ≡ true → length p ≤ m) → begins p (take m s) ≡ begins p s)
+        → (b && begins p (take m s)) ≡ (b && begins p s)
+    go true f ih = ih (λ e. omega (arith, f e))
+    go false f ih = refl
 
--- one letter of a word that is compared with a text from a place on
-module _ (w s : List ℕ) (at j : ℕ) (hj : j < length w) (hk : at + j < length s) where
-  turn : begins (drop j w) (drop (at + j) s) ≡ (eqb (get_or w j 0) (get_or s (at + j) 0) && begins (drop (j + 1) w) (drop (at + (j + 1)) s))
-  turn =
-      let e : at + (j + 1) ≡ suc (at + j) = omega arith in
-      rw (e, drop-cons w j 0 hj, drop-cons s (at + j) 0 hk, add-one j)
+-- a word stands in a text if it stands in the part up to the last end that is tried
+pub stands_within : (i : ℕ) → i < 55 → (s : List ℕ) (m : ℕ) → m ≡ min (run_end s) longest_word
+    → pointwise eqb (word_at i).text (take (length (word_at i).text) (take m s)) ≡ begins (word_at i).text s
+stands_within i h s m e =
+    let f = word_fits i h in
+    compared (word_at i).text (take m s)
+    ∙ within_front (word_at i).text s m (λ b. omega (arith, e, longest_is, f.short, begins_fits (word_at i) f s b))
 
-  pub begins-same : get_or s (at + j) 0 ≡ get_or w j 0 → begins (drop j w) (drop (at + j) s) ≡ begins (drop (j + 1) w) (drop (at + (j + 1)) s)
-  begins-same e = turn ∙ rw (eq-eqb _ _ (sym e))
-
-  pub begins_other : (get_or s (at + j) 0 ≡ get_or w j 0 → ⊥) → begins (drop j w) (drop (at + j) s) ≡ false
-  begins_other f = turn ∙ rw (ne_eqb _ _ (λ e. f (sym e)))
-
-pub begins-all : (w s : List ℕ) (j k : ℕ) → length w ≤ j → begins (drop j w) (drop k s) ≡ true
-begins-all w s j k h = rw (drop_of_length-le w h)
+-- the letters of a word come first in its row's text
+pub row_letters : (i : ℕ) {r : Row} → r ≡ row_at i → {n : ℕ} → n ≡ r.1 → take n r.0 ≡ (word_at i).text
+row_letters i e f = rw (f, e) (take_at (word_at i).text _ (length (word_at i).text) refl)

@@ -1,7 +1,8 @@
 -- From bytes to tokens (document 01, the section of that name).
 use Rattle.std.specs.Prelude.{Bool, ◌&&◌, ◌||◌, cond, List, [], ◌∷◌, ◌++◌, ℕ, zero, suc, ◌+◌, ◌-◌, ◌*◌, eqb, leb, ltb, length, drop}
 use Rattle.intervals.specs.Interval.{elem}
-use Rattle.token.specs.Token.{Token, token, type_number}
+use Rattle.token.specs.Token.{token, type_number}
+use Rattle.token.specs.declared.Token.{Token}
 use Rattle.token.specs.declared.TokenType.TheVariants.{Sharp, Flat, Aug, Dim, HalfDim, Extension, Hyphen, Maj7, Slash, LParent, RParent, Comma, Illegal, Eof}
 use Rattle.utf8.specs.Utf8.{char_of}
 use Rattle.utf8.specs.declared.Found.TheVariants as utf8

@@ -1,19 +1,57 @@
 -- Bookkeeping of contracts between our own functions; no promise of an entry point rests on it.
 -- What the lexer's code keeps while it scans: the lent tables, the place it has come to, and what one step adds.
-use Rattle.std.specs.Prelude.{true, false, ◌&&◌, cond, ◌≡◌, ℕ, zero, suc, ◌+◌, ◌-◌, ◌≤◌, ◌<◌, min, max, eqb, ltb, length, take, drop, get_or}
+use Rattle.std.specs.Prelude.{◌&&◌, cond, Option, Some, None, MatchOption, ◌≡◌, ℕ, zero, suc, ◌+◌, ◌-◌, ◌≤◌, ◌<◌, min, max, eqb, ltb, length, take, drop, get_or}
 use mathlib.Core.List.{List, [], ◌∷◌, ◌++◌, map, zip_with}
 use Rattle.std.proofs.Math.Seq.{slice}
-use Rattle.token.specs.Token.{Token, token, Ranged, Room}
-use Rattle.lexer.specs.Lexer.{illegal, lex, tokens_of}
+use Rattle.intervals.specs.Interval.{elem}
+use Rattle.token.specs.Token.{token, type_number, Ranged, Room}
+use Rattle.token.specs.declared.Token.{Token}
+use Rattle.token.specs.declared.TokenType.TheVariants.{Extension}
+use Rattle.utf8.specs.declared.Found.TheVariants as utf8
+use Rattle.utf8.specs.declared.Found.{Found}
+use Rattle.lexer.specs.Lexer.{illegal, digit_of, one_digit, lex, tokens_of}
+use Rattle.lexer.specs.declared.Match.{Match}
 use Rattle.lexer.specs.Words.{Word, run_end, word, words}
 use Rattle.lexer.specs.declared.Head.TheVariants as head
 use Rattle.lexer.specs.declared.Head.{Head}
+use Rattle.lexer.specs.declared.Added.{Added}
 use Rattle.lexer.specs.declared.Plan.{Plan}
+use Rattle.lexer.specs.declared.Row.{Row}
 use Rattle.lexer.specs.declared.Scan.{Scan}
 
 -- "words as rows of ten bytes with a length": a word's letters, and behind them the places up to ten, as the digits 0 to 9
 abbrev pub padded : Word → List ℕ
 padded w = w.text ++ drop (length w.text) (48 ∷ 49 ∷ 50 ∷ 51 ∷ 52 ∷ 53 ∷ 54 ∷ 55 ∷ 56 ∷ 57 ∷ [])
+
+-- what a number stands for, where n stands for none
+abbrev pub other_than : ℕ → ℕ → Option ℕ
+other_than n k = cond (eqb k n) None (Some k)
+
+-- the digit that may stand behind another, 10 for none; and its bytes
+abbrev pub digit_in_or : Option (ℕ × ℕ) → ℕ
+digit_in_or None = 10
+digit_in_or (Some d) = d.0
+
+abbrev pub bytes_in_or : Option (ℕ × ℕ) → ℕ
+bytes_in_or None = 0
+bytes_in_or (Some d) = d.1
+
+-- the word that was found, where a length of 0 stands for none
+abbrev pub found_word : Match → Option Match
+found_word m = cond (eqb m.len 0) None (Some m)
+
+-- the digit that was found, and its bytes
+abbrev pub digit_with : ℕ → ℕ → Option (ℕ × ℕ)
+digit_with d n = cond (eqb d 10) None (Some (d, n))
+
+abbrev pub digit_found : Found → Option (ℕ × ℕ)
+digit_found (utf8.Char c n) = digit_with (digit_of c) n
+digit_found utf8.Bad = None
+digit_found utf8.End = None
+
+-- the number of one digit
+abbrev pub one_head : ℕ → ℕ → Head
+one_head d n = cond (elem d one_digit) (head.Number (type_number (Extension d)) 1 n) (head.Digit n)
 
 -- a word's first letter, and how many it has
 abbrev pub initial : Word → ℕ
@@ -57,40 +95,35 @@ nexts_from i (w ∷ ws) =
 abbrev pub next_places : List ℕ
 next_places = nexts_from 0 words
 
--- what is kept of a word beside its letters: its length, its type's number and the place of the next word
-abbrev pub info : Word → ℕ → List ℕ
-info w n = letters_in w ∷ w.kind ∷ n ∷ []
+-- what the code's table has of a word: its letters, filled up, how many they are, its type's number and the place of the next word
+abbrev pub row : Word → ℕ → Row
+row w n = record { 0 = padded w; 1 = letters_in w; 2 = w.kind; 3 = n }
 
--- the lent tables hold the word list, and a row for each word and its next place
-pub record Tables (ws is : List (List ℕ)) : Type 0 where
-  pub texts : ws ≡ map padded words
-  pub infos : is ≡ zip_with info words next_places
+-- the table: a row for each word and its next place
+abbrev pub word_rows : List Row
+word_rows = zip_with row words next_places
 
 abbrev pub word_at : ℕ → Word
 word_at i = get_or words i (word [] 0)
 
--- word i, of n letters, begins with the letter that stands at a place of the text
-pub record Candidate (text : List ℕ) (at i n : ℕ) : Type 0 where
-  pub listed : i < 55
-  pub size : n ≡ letters_in (word_at i)
-  pub place : at < length text
-  pub letter : initial (word_at i) ≡ get_or text at 0
+abbrev pub row_at : ℕ → Row
+row_at i = row (word_at i) (get_or next_places i 0)
 
 abbrev pub scan : ℕ → ℕ → ℕ → Scan
 scan a h n = record { at = a; held = h; count = n }
 
-abbrev pub plan : ℕ → ℕ → ℕ → ℕ → Scan → Plan
-plan at k p n s = record { adds = true; place = at; kind = k; pos = p; len = n; next = s }
+abbrev pub plan : ℕ → Token → Scan → Plan
+plan at t s = record { added = Some (record { place = at; token = t }); next = s }
 
 -- what a head adds: nothing; or a token at the end, after which no digit is held any more; or one before the held digits
 abbrev pub plan_of : Head → Scan → Plan
-plan_of head.Space s = record { adds = false; place = s.count; kind = 0; pos = 0; len = 0; next = scan (s.at + 1) s.count s.count }
-plan_of (head.Sign k n) s = plan s.count k s.at 1 (scan (s.at + n) (s.count + 1) (s.count + 1))
-plan_of (head.Word k n) s = plan s.count k s.at n (scan (s.at + n) (s.count + 1) (s.count + 1))
-plan_of (head.Number k l n) s = plan s.held k s.at l (scan (s.at + n) (s.held + 1) (s.count + 1))
-plan_of (head.Digit n) s = plan s.held illegal s.at 1 (scan (s.at + n) s.held (s.count + 1))
+plan_of head.Space s = record { added = None; next = scan (s.at + 1) s.count s.count }
+plan_of (head.Sign k n) s = plan s.count (token k s.at 1) (scan (s.at + n) (s.count + 1) (s.count + 1))
+plan_of (head.Word k n) s = plan s.count (token k s.at n) (scan (s.at + n) (s.count + 1) (s.count + 1))
+plan_of (head.Number k l n) s = plan s.held (token k s.at l) (scan (s.at + n) (s.held + 1) (s.count + 1))
+plan_of (head.Digit n) s = plan s.held (token illegal s.at 1) (scan (s.at + n) s.held (s.count + 1))
 
--- the tokens that stand in the arrays, but for the held digits, and those still to come
+-- the tokens that stand there, but for the held digits, and those still to come
 abbrev pub all_tokens : List ℕ → Scan → List Token → List Token
 all_tokens text s R = take s.held R ++ lex 0 (slice s.held s.count R) s.at (drop s.at text)
 
@@ -105,18 +138,21 @@ pub record Inserted (t : Token) (place n : ℕ) (R R' : List Token) : Type 0 whe
   pub list : take (n + 1) R' ≡ take place R ++ (t ∷ slice place n R)
   pub rest : drop (n + 1) R' ≡ drop (n + 1) R
 
+-- what was added: nothing, or a token, to the first n tokens
+abbrev pub Adds : Option Added → ℕ → List Token → List Token → Type 0
+Adds None n R R' = R' ≡ R
+Adds (Some a) n R R' = Inserted a.token a.place n R R'
+
 -- a head was emitted: the plan was carried out, and what lies beyond the tokens is untouched
 pub record Emitted (h : Head) (s s' : Scan) (R R' : List Token) : Type 0 where
   pub state : s' ≡ (plan_of h s).next
-  pub none : (plan_of h s).adds ≡ false → R' ≡ R
-  pub one : (plan_of h s).adds ≡ true
-      → Inserted (token (plan_of h s).kind (plan_of h s).pos (plan_of h s).len) (plan_of h s).place s.count R R'
+  pub adds : Adds (plan_of h s).added s.count R R'
 
 -- a place from which the text can be scanned: a text of at most 256 bytes, and room for the tokens to come
-pub record Scannable (text : List ℕ) (s : Scan) (kinds poss lens : List ℕ) : Type 0 where
+pub record Scannable (text : List ℕ) (s : Scan) (tokens : List Token) : Type 0 where
   pub short : length text ≤ 256
   pub few : Few text s
-  pub room : Room (length text) kinds poss lens
+  pub room : Room (length text) tokens
 
 -- the scan went on: the tokens that stand there and those to come are the same, and what lies beyond them is untouched
 pub record Went (text : List ℕ) (s s' : Scan) (R R' : List Token) : Type 0 where

@@ -1,145 +1,91 @@
 // From a text to its tokens: the word list, what stands at a place, and the walk over the text.
 #![tactic(auto)]
 
-ghost use mathlib.Core.List.{[], map, zip_with};
-ghost use Rattle.std.specs.Prelude.{false, ◌≡◌, ◌+◌, ◌<◌, ◌≤◌, min, length, get_or, drop};
+ghost use mathlib.Core.List.{[]};
+ghost use Rattle.std.specs.Prelude.{false, ◌≡◌, ◌+◌, ◌<◌, ◌≤◌, min, length, drop};
 ghost use Rattle.intervals.specs.Interval.{elem};
-ghost use Rattle.token.specs.Token.{token as token_of, rows, Room, Untouched};
+ghost use Rattle.token.specs.Token.{token as token_of, Room, Untouched};
 ghost use Rattle.utf8.specs.Utf8.{begins, char_at};
-ghost use Rattle.lexer.specs.Words.{words as word_list, is_letter, run_end, word_by_ends};
+ghost use Rattle.lexer.specs.Words.{is_letter, run_end, word_by_ends};
 ghost use Rattle.lexer.specs.Lexer.{raised_numerals, place_in, digit_of, sign_of, sign_head, word_head, two_digits, one_digit, number_head, number_by, head_by, head_of, size_of, lex};
-ghost use Rattle.lexer.specs.State.{Tables, Candidate, last_end, longest_word, place_down, next_places, info as info_of, padded, word_at, scan, plan, plan_of, Inserted, Emitted, Scannable, Went, Written, Scanned};
+ghost use Rattle.lexer.specs.declared.Match.{Match};
+ghost use Rattle.lexer.specs.State.{other_than, found_word, digit_in_or, bytes_in_or, digit_found, one_head, word_rows, row_at, word_at, last_end, longest_word, place_down, scan, plan, plan_of, Inserted, Emitted, Scannable, Went, Written, Scanned};
 ghost use Rattle.utf8.specs.declared.Found.TheVariants as utf8;
 
 use token::{
     AUG, COMMA, DIM, EOF, FLAT, HALF_DIM, HYPHEN, ILLEGAL, LPARENT, MAJ7, RPARENT, SHARP, SLASH,
+    Token,
 };
 use utf8::Found;
 
-// The words of `from_string`, as rows of ten bytes. What fills a row is not looked at; it counts the places, since a run of equal bytes in
-// a table takes several times as long to set up.
-pub const WORDS: [[u8; 10]; 55] = [
-    *b"BASS456789",
-    *b"Bass456789",
-    *b"bass456789",
-    *b"MAJ3456789",
-    *b"Maj3456789",
-    *b"maj3456789",
-    *b"MAJOR56789",
-    *b"Major56789",
-    *b"major56789",
-    *b"MA23456789",
-    *b"Ma23456789",
-    *b"ma23456789",
-    *b"M123456789",
-    *b"MIN3456789",
-    *b"Min3456789",
-    *b"min3456789",
-    *b"MINOR56789",
-    *b"Minor56789",
-    *b"minor56789",
-    *b"MI23456789",
-    *b"Mi23456789",
-    *b"mi23456789",
-    *b"m123456789",
-    *b"b123456789",
-    *b"SUS3456789",
-    *b"Sus3456789",
-    *b"sus3456789",
-    *b"DIM3456789",
-    *b"Dim3456789",
-    *b"dim3456789",
-    *b"diminished",
-    *b"ALT3456789",
-    *b"Alt3456789",
-    *b"alt3456789",
-    *b"AUG3456789",
-    *b"Aug3456789",
-    *b"aug3456789",
-    *b"ADD3456789",
-    *b"Add3456789",
-    *b"add3456789",
-    *b"O123456789",
-    *b"o123456789",
-    *b"OMIT456789",
-    *b"Omit456789",
-    *b"omit456789",
-    *b"NO23456789",
-    *b"No23456789",
-    *b"no23456789",
-    *b"A123456789",
-    *b"B123456789",
-    *b"C123456789",
-    *b"D123456789",
-    *b"E123456789",
-    *b"F123456789",
-    *b"G123456789",
-];
+// A word of `from_string`: its letters, filled up to ten bytes; how many they are; the number of its type; and the place of the next one to
+// try: as long and with the same first letter, or, where there is none, shorter; 55 for none.
+#[derive(Clone, Copy)]
+pub struct Row(pub [u8; 10], pub u8, pub u8, pub u8);
 
-// For each word its length, the number of its type, and the place of the next one to try: as long and with the same first letter, or, where
-// there is none, shorter; 55 for none.
-pub const INFOS: [[u8; 3]; 55] = [
-    [4, 20, 1],
-    [4, 20, 49],
-    [4, 20, 23],
-    [3, 14, 4],
-    [3, 14, 13],
-    [3, 14, 15],
-    [5, 14, 7],
-    [5, 14, 16],
-    [5, 14, 18],
-    [2, 14, 10],
-    [2, 14, 19],
-    [2, 14, 21],
-    [1, 14, 55],
-    [3, 12, 14],
-    [3, 12, 9],
-    [3, 12, 11],
-    [5, 12, 17],
-    [5, 12, 3],
-    [5, 12, 5],
-    [2, 12, 20],
-    [2, 12, 12],
-    [2, 12, 22],
-    [1, 12, 55],
-    [1, 2, 55],
-    [3, 11, 25],
-    [3, 11, 55],
-    [3, 11, 55],
-    [3, 4, 28],
-    [3, 4, 51],
-    [3, 4, 55],
-    [10, 4, 29],
-    [3, 10, 32],
-    [3, 10, 34],
-    [3, 10, 36],
-    [3, 3, 35],
-    [3, 3, 37],
-    [3, 3, 39],
-    [3, 8, 38],
-    [3, 8, 48],
-    [3, 8, 55],
-    [1, 4, 55],
-    [1, 4, 55],
-    [4, 9, 43],
-    [4, 9, 40],
-    [4, 9, 41],
-    [2, 9, 46],
-    [2, 9, 55],
-    [2, 9, 55],
-    [1, 69, 55],
-    [1, 70, 55],
-    [1, 64, 55],
-    [1, 65, 55],
-    [1, 66, 55],
-    [1, 67, 55],
-    [1, 68, 55],
+// The words. What fills a row's text is not looked at; it counts the places.
+static WORDS: [Row; 55] = [
+    Row(*b"BASS456789", 4, 20, 1),
+    Row(*b"Bass456789", 4, 20, 49),
+    Row(*b"bass456789", 4, 20, 23),
+    Row(*b"MAJ3456789", 3, 14, 4),
+    Row(*b"Maj3456789", 3, 14, 13),
+    Row(*b"maj3456789", 3, 14, 15),
+    Row(*b"MAJOR56789", 5, 14, 7),
+    Row(*b"Major56789", 5, 14, 16),
+    Row(*b"major56789", 5, 14, 18),
+    Row(*b"MA23456789", 2, 14, 10),
+    Row(*b"Ma23456789", 2, 14, 19),
+    Row(*b"ma23456789", 2, 14, 21),
+    Row(*b"M123456789", 1, 14, 55),
+    Row(*b"MIN3456789", 3, 12, 14),
+    Row(*b"Min3456789", 3, 12, 9),
+    Row(*b"min3456789", 3, 12, 11),
+    Row(*b"MINOR56789", 5, 12, 17),
+    Row(*b"Minor56789", 5, 12, 3),
+    Row(*b"minor56789", 5, 12, 5),
+    Row(*b"MI23456789", 2, 12, 20),
+    Row(*b"Mi23456789", 2, 12, 12),
+    Row(*b"mi23456789", 2, 12, 22),
+    Row(*b"m123456789", 1, 12, 55),
+    Row(*b"b123456789", 1, 2, 55),
+    Row(*b"SUS3456789", 3, 11, 25),
+    Row(*b"Sus3456789", 3, 11, 55),
+    Row(*b"sus3456789", 3, 11, 55),
+    Row(*b"DIM3456789", 3, 4, 28),
+    Row(*b"Dim3456789", 3, 4, 51),
+    Row(*b"dim3456789", 3, 4, 55),
+    Row(*b"diminished", 10, 4, 29),
+    Row(*b"ALT3456789", 3, 10, 32),
+    Row(*b"Alt3456789", 3, 10, 34),
+    Row(*b"alt3456789", 3, 10, 36),
+    Row(*b"AUG3456789", 3, 3, 35),
+    Row(*b"Aug3456789", 3, 3, 37),
+    Row(*b"aug3456789", 3, 3, 39),
+    Row(*b"ADD3456789", 3, 8, 38),
+    Row(*b"Add3456789", 3, 8, 48),
+    Row(*b"add3456789", 3, 8, 55),
+    Row(*b"O123456789", 1, 4, 55),
+    Row(*b"o123456789", 1, 4, 55),
+    Row(*b"OMIT456789", 4, 9, 43),
+    Row(*b"Omit456789", 4, 9, 40),
+    Row(*b"omit456789", 4, 9, 41),
+    Row(*b"NO23456789", 2, 9, 46),
+    Row(*b"No23456789", 2, 9, 55),
+    Row(*b"no23456789", 2, 9, 55),
+    Row(*b"A123456789", 1, 69, 55),
+    Row(*b"B123456789", 1, 70, 55),
+    Row(*b"C123456789", 1, 64, 55),
+    Row(*b"D123456789", 1, 65, 55),
+    Row(*b"E123456789", 1, 66, 55),
+    Row(*b"F123456789", 1, 67, 55),
+    Row(*b"G123456789", 1, 68, 55),
 ];
 
 // The longest word has so many letters (`diminished`).
 const LONGEST_WORD: usize = 10;
 
-// The word that was found: its length, 0 for none, and the number of its type.
+// The word that was found: its length, and the number of its type.
 #[derive(Clone, Copy)]
 pub struct Match {
     pub len: usize,
@@ -165,106 +111,89 @@ pub struct Scan {
     pub count: usize,
 }
 
-// What a head adds: a token and its place, or none; and the state after it.
+// A token to add, and its place among the tokens.
+#[derive(Clone, Copy)]
+pub struct Added {
+    pub place: usize,
+    pub token: Token,
+}
+
+// What a head adds, and the state after it.
 #[derive(Clone, Copy)]
 pub struct Plan {
-    pub adds: bool,
-    pub place: usize,
-    pub kind: u8,
-    pub pos: u16,
-    pub len: u16,
+    pub added: Option<Added>,
     pub next: Scan,
 }
 
-fn wide(n: u8) -> usize
-    ensures { (result ≡ n) × (result < 256) }
+// The word list. The table is named here alone, since all that follows it in a function is proved with its numbers in view.
+fn word_list() -> &'static [Row; 55]
+    ensures { result.now ≡ word_rows }
 {
-    n as usize
+    &WORDS
 }
 
-// The letter j of word i.
-fn letter(words: &[[u8; 10]; 55], i: usize, j: usize) -> u8
-    requires { (words.now ≡ map padded word_list) × (i < 55) × (j < length (word_at i).text) }
-    ensures { result ≡ get_or (word_at i).text j 0 }
+// Word i.
+fn word_row(i: usize) -> &'static Row
+    requires { i < 55 }
+    ensures { result.now ≡ row_at i }
 {
-    words[i][j]
+    &word_list()[i]
 }
 
-// Entry j of the row of word i: its length, the number of its type, or the place of the next word.
-fn info(infos: &[[u8; 3]; 55], i: usize, j: usize) -> u8
-    requires { (i < 55) × (j < 3) }
-    ensures { result ≡ get_or (get_or infos.now i []) j 0 }
+// The place of the next word to try: the definition has 55 for none, and so has the table.
+fn next_word(next: u8) -> Option<usize>
+    ensures { result ≡ other_than 55 next }
 {
-    infos[i][j]
+    if next == 55 {
+        return None;
+    }
+    Some(usize::from(next))
 }
 
-// Does word i, of n letters, stand at a place of the text? Its first letter does.
-fn matches(words: &[[u8; 10]; 55], i: usize, n: usize, text: &[u8], at: usize) -> bool
-    requires { (words.now ≡ map padded word_list) × Candidate text.now at i n × (at + n ≤ length text.now) }
+// Does word i stand at a place of the text? No word passes the last end that is tried.
+fn stands(i: usize, text: &[u8], at: usize, last: usize) -> bool
+    requires { (i < 55) × (at ≤ length text.now) × (last ≡ last_end text.now at) }
     ensures { result ≡ begins (word_at i).text (drop at text.now) }
 {
-    let mut j = 1;
-    while j < n {
-        if text[at + j] != letter(words, i, j) {
-            return false;
-        }
-        j += 1;
-    }
-    true
+    let Row(letters, len, ..) = word_row(i);
+    let letters = &letters[..usize::from(*len)];
+    let run = &text[at..last];
+    run.starts_with(letters)
 }
 
-// The same, where only ends up to the last one are tried: no word of the run ends behind it.
-fn stands(words: &[[u8; 10]; 55], i: usize, n: usize, text: &[u8], at: usize, last: usize) -> bool
-    requires { (words.now ≡ map padded word_list) × Candidate text.now at i n × (last ≡ last_end text.now at)
-        × (length text.now ≤ 256) }
-    ensures { result ≡ begins (word_at i).text (drop at text.now) }
-{
-    if last < at + n {
-        return false;
-    }
-    matches(words, i, n, text, at)
-}
-
-// The place of the longest word that begins with a letter, the first of such; 55 for none.
-fn first_word(b: u8) -> usize
-    ensures { result ≡ place_down b longest_word }
+// The place of the longest word that begins with a letter, the first of such.
+#[tactic(auto, unfolding(crate::specs::State::place_down, crate::specs::State::place_of, crate::specs::Words::words))]
+fn first_word(b: u8) -> Option<usize>
+    ensures { result ≡ other_than 55 (place_down b longest_word) }
 {
     match b {
-        b'A' => 31,
-        b'B' => 0,
-        b'C' => 50,
-        b'D' => 27,
-        b'E' => 52,
-        b'F' => 53,
-        b'G' => 54,
-        b'M' => 6,
-        b'N' => 45,
-        b'O' => 42,
-        b'S' => 24,
-        b'a' => 33,
-        b'b' => 2,
-        b'd' => 30,
-        b'm' => 8,
-        b'n' => 47,
-        b'o' => 44,
-        b's' => 26,
-        _ => 55,
+        b'A' => Some(31),
+        b'B' => Some(0),
+        b'C' => Some(50),
+        b'D' => Some(27),
+        b'E' => Some(52),
+        b'F' => Some(53),
+        b'G' => Some(54),
+        b'M' => Some(6),
+        b'N' => Some(45),
+        b'O' => Some(42),
+        b'S' => Some(24),
+        b'a' => Some(33),
+        b'b' => Some(2),
+        b'd' => Some(30),
+        b'm' => Some(8),
+        b'n' => Some(47),
+        b'o' => Some(44),
+        b's' => Some(26),
+        _ => None,
     }
 }
 
-fn is_letter(c: u32) -> bool
-    ensures { result ≡ is_letter c }
+#[tactic(auto, unfolding(crate::specs::Words::is_letter))]
+fn is_letter(b: u8) -> bool
+    ensures { result ≡ is_letter b }
 {
-    if c < 65 {
-        return false;
-    }
-    if c <= 90 {
-        return true;
-    }
-    if c < 97 {
-        return false;
-    }
-    c <= 122
+    matches!(b, b'A'..=b'Z' | b'a'..=b'z')
 }
 
 // Where the letter run at a place of the text ends.
@@ -272,185 +201,155 @@ fn run_end(text: &[u8], at: usize) -> usize
     requires { at ≤ length text.now }
     ensures { result ≡ at + run_end (drop at text.now) }
 {
-    let mut end = at;
-    while end < text.len() {
-        let b = text[end];
-        if !is_letter(b as u32) {
-            return end;
-        }
-        end += 1;
-    }
-    end
+    let rest = &text[at..];
+    at + rest
+        .iter()
+        .position(|b| !is_letter(*b))
+        .unwrap_or(rest.len())
 }
 
 // The last end to try from a place of a letter run that ends at `end`.
+#[tactic(auto, using(crate::proofs::Chains::longest_is))]
 fn last_end(at: usize, end: usize) -> usize
     requires { at ≤ 256 }
     ensures { result ≡ min end (at + longest_word) }
 {
-    if at + LONGEST_WORD < end {
-        return at + LONGEST_WORD;
-    }
-    end
+    end.min(at + LONGEST_WORD)
 }
 
 // The word at a place of a letter run that ends at `end`, by trying ends from the last one down: the words with the letter that stands
 // there come the longest first, so that the first one that stands there is it.
-fn word_by_ends(
-    words: &[[u8; 10]; 55],
-    infos: &[[u8; 3]; 55],
-    text: &[u8],
-    at: usize,
-    end: usize,
-) -> Match
-    requires { Tables words.now infos.now × (at < length text.now) × (length text.now ≤ 256)
-        × (end ≡ at + run_end (drop at text.now)) }
-    ensures { result ≡ word_by_ends (drop at text.now) }
+fn word_by_ends(text: &[u8], at: usize, end: usize) -> Option<Match>
+    requires { (at < length text.now) × (length text.now ≤ 256) × (end ≡ at + run_end (drop at text.now)) }
+    ensures { result ≡ found_word (word_by_ends (drop at text.now)) }
 {
     let last = last_end(at, end);
-    let mut i = first_word(text[at]);
-    while i < 55 {
-        let n = wide(info(infos, i, 0));
-        if stands(words, i, n, text, at, last) {
-            return Match {
-                len: n,
-                kind: info(infos, i, 1),
-            };
+    let mut next = first_word(text[at]);
+    while let Some(i) = next {
+        let Row(_, len, kind, after) = *word_row(i);
+        if stands(i, text, at, last) {
+            return Some(Match {
+                len: usize::from(len),
+                kind,
+            });
         }
-        i = wide(info(infos, i, 2));
+        next = next_word(after);
     }
-    Match {
-        len: 0,
-        kind: ILLEGAL,
-    }
+    None
 }
 
-// The digit that one of the raised numerals ⁰ ¹ ² ³ ⁴ ⁵ ⁶ ⁷ ⁸ ⁹ is, 10 for any other character.
-fn raised_digit(c: u32) -> u8
-    ensures { (result ≡ place_in raised_numerals c) × (result ≤ 10) }
+// The digit that one of the raised numerals ⁰ ¹ ² ³ ⁴ ⁵ ⁶ ⁷ ⁸ ⁹ is.
+fn raised_digit(c: u32) -> Option<u8>
+    ensures { result ≡ other_than 10 (place_in raised_numerals c) }
 {
     match c {
-        0x2070 => 0,
-        0xB9 => 1,
-        0xB2 => 2,
-        0xB3 => 3,
-        0x2074 => 4,
-        0x2075 => 5,
-        0x2076 => 6,
-        0x2077 => 7,
-        0x2078 => 8,
-        0x2079 => 9,
-        _ => 10,
+        0x2070 => Some(0),
+        0xB9 => Some(1),
+        0xB2 => Some(2),
+        0xB3 => Some(3),
+        0x2074 => Some(4),
+        0x2075 => Some(5),
+        0x2076 => Some(6),
+        0x2077 => Some(7),
+        0x2078 => Some(8),
+        0x2079 => Some(9),
+        _ => None,
     }
 }
 
-// The digit that a character is, plain or raised, 10 for none.
-fn digit_of(c: u32) -> u8
-    ensures { (result ≡ digit_of c) × (result ≤ 10) }
-{
-    if c < 48 {
-        return 10;
-    }
-    if c <= 57 {
-        return (c - 48) as u8;
-    }
-    raised_digit(c)
-}
-
-// The number of a sign's type, 0 for a character that is no sign: # ♯ ♭ △ ^ Δ - ° ø / + , ( ) in this order.
-fn sign_of(c: u32) -> u8
-    ensures { result ≡ sign_of c }
+// The digit that a character is, plain or raised.
+#[tactic(auto, unfolding(crate::specs::Lexer::digit_of))]
+fn digit_of(c: u32) -> Option<u8>
+    ensures { result ≡ other_than 10 (digit_of c) }
 {
     match c {
-        0x23 => SHARP,
-        0x266F => SHARP,
-        0x266D => FLAT,
-        0x25B3 => MAJ7,
-        0x5E => MAJ7,
-        0x394 => MAJ7,
-        0x2D => HYPHEN,
-        0xB0 => DIM,
-        0xF8 => HALF_DIM,
-        0x2F => SLASH,
-        0x2B => AUG,
-        0x2C => COMMA,
-        0x28 => LPARENT,
-        0x29 => RPARENT,
-        _ => 0,
+        48..=57 => Some((c - 48) as u8),
+        _ => raised_digit(c),
+    }
+}
+
+// The number of a sign's type, if a character is one: # ♯ ♭ △ ^ Δ - ° ø / + , ( ) in this order.
+#[tactic(auto, unfolding(crate::specs::Lexer::sign_of))]
+fn sign_of(c: u32) -> Option<u8>
+    ensures { result ≡ other_than 0 (sign_of c) }
+{
+    match c {
+        0x23 | 0x266F => Some(SHARP),
+        0x266D => Some(FLAT),
+        0x25B3 | 0x5E | 0x394 => Some(MAJ7),
+        0x2D => Some(HYPHEN),
+        0xB0 => Some(DIM),
+        0xF8 => Some(HALF_DIM),
+        0x2F => Some(SLASH),
+        0x2B => Some(AUG),
+        0x2C => Some(COMMA),
+        0x28 => Some(LPARENT),
+        0x29 => Some(RPARENT),
+        _ => None,
     }
 }
 
 fn sign_head(c: u32, n: usize) -> Head
     ensures { result ≡ sign_head c n }
 {
-    let k = sign_of(c);
-    if k == 0 {
-        return Head::Word(ILLEGAL, n);
+    match sign_of(c) {
+        Some(k) => Head::Sign(k, n),
+        None => Head::Word(ILLEGAL, n),
     }
-    Head::Sign(k, n)
 }
 
-fn word_head(m: Match) -> Head
-    ensures { result ≡ word_head m }
+fn word_head(word: Option<Match>) -> Head
+    ensures { (m : Match) → word ≡ found_word m → result ≡ word_head m }
 {
-    let n = m.len;
-    if n == 0 {
-        return Head::Word(ILLEGAL, 1);
+    match word {
+        Some(m) => Head::Word(m.kind, m.len),
+        None => Head::Word(ILLEGAL, 1),
     }
-    Head::Word(m.kind, n)
 }
 
 // The numbers of two digits, and those of one.
 fn is_two(v: u8) -> bool
     ensures { result ≡ elem v two_digits }
 {
-    match v {
-        11 => true,
-        13 => true,
-        _ => false,
-    }
+    matches!(v, 11 | 13)
 }
 
 fn is_one(d: u8) -> bool
     ensures { result ≡ elem d one_digit }
 {
-    match d {
-        2 => true,
-        3 => true,
-        4 => true,
-        5 => true,
-        6 => true,
-        7 => true,
-        9 => true,
-        _ => false,
-    }
+    matches!(d, 2 | 3 | 4 | 5 | 6 | 7 | 9)
 }
 
-// The number that two digits begin with: d, of n bytes, and e, of m.
-fn number_head(d: u8, n: usize, e: u8, m: usize) -> Head
-    requires { (d ≤ 10) × (e ≤ 10) × (n ≤ 256) × (m ≤ 256) }
-    ensures { result ≡ number_head d n e m }
+// The number of one digit: d, of n bytes.
+fn one_head(d: u8, n: usize) -> Head
+    requires { (d ≤ 10) × (n ≤ 256) }
+    ensures { result ≡ one_head d n }
 {
-    let v = 10 * d + e;
-    if is_two(v) {
-        return Head::Number(32 + v, 2, n + m);
-    }
     if is_one(d) {
         return Head::Number(32 + d, 1, n);
     }
     Head::Digit(n)
 }
 
-// The number that the digit d, of n bytes, begins with, by the character that stands behind it, at a place of the text.
-fn number_by(text: &[u8], at: usize, d: u8, n: usize) -> Head
-    requires { (d ≤ 10) × (n ≤ 256) × (length text.now ≤ 256) }
-    ensures { result ≡ number_by d n (char_at text.now at) }
+// The number that two digits begin with: d, of n bytes, and the one that may stand behind it, with its bytes.
+fn number_head(d: u8, n: usize, behind: Option<(u8, usize)>) -> Head
+    requires { (d < 10) × (digit_in_or behind ≤ 10) × (n ≤ 256) × (bytes_in_or behind ≤ 256) }
+    ensures { result ≡ number_head d n (digit_in_or behind) (bytes_in_or behind) }
 {
-    match utf8::char_at(text, at) {
-        Found::Char(c, m) => number_head(d, n, digit_of(c), m),
-        Found::Bad => number_head(d, n, 10, 0),
-        Found::End => number_head(d, n, 10, 0),
+    match behind {
+        Some((e, m)) if is_two(10 * d + e) => Head::Number(32 + 10 * d + e, 2, n + m),
+        _ => one_head(d, n),
     }
+}
+
+// The digit at a place of the text, and its bytes.
+fn digit_at(text: &[u8], at: usize) -> Option<(u8, usize)>
+    ensures { result ≡ digit_found (char_at text.now at) }
+{
+    let Found::Char(c, n) = utf8::char_at(text, at) else {
+        return None;
+    };
+    Some((digit_of(c)?, n))
 }
 
 // What the character c, of n bytes, begins at a place of the text, if it is no letter.
@@ -458,25 +357,22 @@ fn head_by(text: &[u8], at: usize, c: u32, n: usize) -> Head
     requires { (is_letter c ≡ false) × (at + n ≤ length text.now) × (length text.now ≤ 256) }
     ensures { result ≡ head_by (utf8.Char c n) (drop at text.now) }
 {
-    let d = digit_of(c);
-    if d < 10 {
-        return number_by(text, at + n, d, n);
+    match digit_of(c) {
+        Some(d) => number_head(d, n, digit_at(text, at + n)),
+        None if c == 32 => Head::Space,
+        None => sign_head(c, n),
     }
-    if c == 32 {
-        return Head::Space;
-    }
-    sign_head(c, n)
 }
 
 // What stands at a place of the text that has no letter.
+#[tactic(auto, unfolding(crate::specs::Lexer::head_of))]
 fn head_at(text: &[u8], at: usize) -> Head
     requires { (run_end (drop at text.now) ≡ 0) × (at < length text.now) × (length text.now ≤ 256) }
     ensures { result ≡ head_of (drop at text.now) }
 {
     match utf8::char_at(text, at) {
         Found::Char(c, n) => head_by(text, at, c, n),
-        Found::Bad => Head::Word(ILLEGAL, 1),
-        Found::End => Head::Word(ILLEGAL, 1),
+        Found::Bad | Found::End => Head::Word(ILLEGAL, 1),
     }
 }
 
@@ -487,14 +383,11 @@ fn scan_at(at: usize, held: usize, count: usize) -> Scan
 }
 
 fn add_at(place: usize, kind: u8, pos: u16, len: u16, next: Scan) -> Plan
-    ensures { result ≡ plan place kind pos len next }
+    ensures { result ≡ plan place (token_of kind pos len) next }
 {
+    let token = Token { kind, pos, len };
     Plan {
-        adds: true,
-        place,
-        kind,
-        pos,
-        len,
+        added: Some(Added { place, token }),
         next,
     }
 }
@@ -505,17 +398,11 @@ fn plan_for(h: Head, s: Scan) -> Plan
     requires { (s.at + size_of h ≤ 256) × (s.held ≤ s.count) × (s.count ≤ 256) }
     ensures { result ≡ plan_of h s }
 {
-    let at = s.at;
-    let held = s.held;
-    let n = s.count;
+    let Scan { at, held, count: n } = s;
     let p = at as u16;
     match h {
         Head::Space => Plan {
-            adds: false,
-            place: n,
-            kind: 0,
-            pos: 0,
-            len: 0,
+            added: None,
             next: scan_at(at + 1, n, n),
         },
         Head::Sign(k, b) => add_at(n, k, p, 1, scan_at(at + b, n + 1, n + 1)),
@@ -526,161 +413,81 @@ fn plan_for(h: Head, s: Scan) -> Plan
 }
 
 // Puts a token at a place of n tokens, before those from there on.
-fn insert(
-    kinds: &mut [u8],
-    poss: &mut [u16],
-    lens: &mut [u16],
-    place: usize,
-    n: usize,
-    kind: u8,
-    pos: u16,
-    len: u16,
-)
-    requires { (place ≤ n) × Room (n + 1) kinds.old poss.old lens.old }
-    ensures { Inserted (token_of kind pos len) place n (rows kinds.old poss.old lens.old)
-        (rows kinds.new poss.new lens.new) }
+fn insert(tokens: &mut [Token], place: usize, n: usize, token: Token)
+    requires { (place ≤ n) × Room (n + 1) tokens.old }
+    ensures { Inserted token place n tokens.old tokens.new }
 {
-    let mut j = n;
-    while place < j {
-        let i = j - 1;
-        token::copy(kinds, poss, lens, j, i);
-        j = i;
-    }
-    token::put(kinds, poss, lens, place, kind, pos, len);
+    tokens[place..n + 1].rotate_right(1);
+    tokens[place] = token;
 }
 
 // Adds what a head gives to the tokens.
-fn emit(kinds: &mut [u8], poss: &mut [u16], lens: &mut [u16], h: Head, s: Scan) -> Scan
-    requires { (s.at + size_of h ≤ 256) × (s.held ≤ s.count) × (s.count ≤ 256)
-        × Room (s.count + 1) kinds.old poss.old lens.old }
-    ensures { Emitted h s result (rows kinds.old poss.old lens.old)
-        (rows kinds.new poss.new lens.new) }
+fn emit(tokens: &mut [Token], h: Head, s: Scan) -> Scan
+    requires { (s.at + size_of h ≤ 256) × (s.held ≤ s.count) × (s.count ≤ 256) × Room (s.count + 1) tokens.old }
+    ensures { Emitted h s result tokens.old tokens.new }
 {
-    let p = plan_for(h, s);
-    let next = p.next;
-    if !p.adds {
-        return next;
+    let plan = plan_for(h, s);
+    if let Some(a) = plan.added {
+        insert(tokens, a.place, s.count, a.token);
     }
-    insert(kinds, poss, lens, p.place, s.count, p.kind, p.pos, p.len);
-    next
+    plan.next
 }
 
 // Cuts a letter run that ends at `end`: from each start the longest word, or an Illegal letter.
-fn parse_string(
-    words: &[[u8; 10]; 55],
-    infos: &[[u8; 3]; 55],
-    text: &[u8],
-    kinds: &mut [u8],
-    poss: &mut [u16],
-    lens: &mut [u16],
-    start: Scan,
-    end: usize,
-) -> Scan
-    requires { Tables words.now infos.now × Scannable text.now start kinds.old poss.old lens.old
-        × (end ≡ start.at + run_end (drop start.at text.now)) }
-    ensures { Went text.now start result (rows kinds.old poss.old lens.old)
-        (rows kinds.new poss.new lens.new) × (end ≤ result.at) }
+fn parse_string(text: &[u8], tokens: &mut [Token], start: Scan, end: usize) -> Scan
+    requires { Scannable text.now start tokens.old × (end ≡ start.at + run_end (drop start.at text.now)) }
+    ensures { Went text.now start result tokens.old tokens.new × (end ≤ result.at) }
 {
     let mut s = start;
+    // A step is as long as the word that it found.
     while s.at < end {
-        let at = s.at;
-        let h = word_head(word_by_ends(words, infos, text, at, end));
-        s = emit(kinds, poss, lens, h, s);
+        let h = word_head(word_by_ends(text, s.at, end));
+        s = emit(tokens, h, s);
     }
     s
 }
 
 // Scans what stands at a place of the text: a letter run, or one character or number.
-fn scan_token(
-    words: &[[u8; 10]; 55],
-    infos: &[[u8; 3]; 55],
-    text: &[u8],
-    kinds: &mut [u8],
-    poss: &mut [u16],
-    lens: &mut [u16],
-    s: Scan,
-) -> Scan
-    requires { Tables words.now infos.now × Scannable text.now s kinds.old poss.old lens.old × (s.at < length text.now) }
-    ensures { Went text.now s result (rows kinds.old poss.old lens.old)
-        (rows kinds.new poss.new lens.new) × (s.at < result.at) }
+fn scan_token(text: &[u8], tokens: &mut [Token], s: Scan) -> Scan
+    requires { Scannable text.now s tokens.old × (s.at < length text.now) }
+    ensures { Went text.now s result tokens.old tokens.new × (s.at < result.at) }
 {
-    let at = s.at;
-    let b = text[at];
-    if is_letter(b as u32) {
-        let end = run_end(text, at + 1);
-        return parse_string(words, infos, text, kinds, poss, lens, s, end);
+    if is_letter(text[s.at]) {
+        let end = run_end(text, s.at + 1);
+        return parse_string(text, tokens, s, end);
     }
-    emit(kinds, poss, lens, head_at(text, at), s)
+    emit(tokens, head_at(text, s.at), s)
 }
 
-// Writes the tokens of a text, its word list lent; their number is returned.
-fn scan_text(
-    words: &[[u8; 10]; 55],
-    infos: &[[u8; 3]; 55],
-    text: &[u8],
-    kinds: &mut [u8],
-    poss: &mut [u16],
-    lens: &mut [u16],
-) -> usize
-    requires { Tables words.now infos.now × (length text.now ≤ 256) × Room (length text.now) kinds.old poss.old lens.old }
-    ensures { Written (lex 0 [] 0 text.now) result (rows kinds.old poss.old lens.old)
-        (rows kinds.new poss.new lens.new) × (result ≤ length text.now) }
+// Writes the tokens of a text but for End; their number is returned.
+fn scan_text(text: &[u8], tokens: &mut [Token]) -> usize
+    requires { (length text.now ≤ 256) × Room (length text.now) tokens.old }
+    ensures { Written (lex 0 [] 0 text.now) result tokens.old tokens.new × (result ≤ length text.now) }
 {
     let mut s = Scan {
         at: 0,
         held: 0,
         count: 0,
     };
+    // A step is as long as what it found.
     while s.at < text.len() {
-        s = scan_token(words, infos, text, kinds, poss, lens, s);
+        s = scan_token(text, tokens, s);
     }
     s.count
 }
 
-// The same, with End after them.
-fn scan_to_end(
-    words: &[[u8; 10]; 55],
-    infos: &[[u8; 3]; 55],
-    text: &[u8],
-    kinds: &mut [u8],
-    poss: &mut [u16],
-    lens: &mut [u16],
-) -> usize
-    requires { Tables words.now infos.now × (length text.now ≤ 256)
-        × Room (length text.now + 1) kinds.old poss.old lens.old }
-    ensures { Scanned text.now result (rows kinds.old poss.old lens.old)
-        (rows kinds.new poss.new lens.new) }
+// Writes the tokens of a text of at most 256 bytes, and End after them; their number is returned. What lies beyond them is untouched.
+pub fn scan_tokens(text: &[u8], tokens: &mut [Token]) -> usize
+    requires { (length text.now ≤ 256) × Room (length text.now + 1) tokens.old }
+    ensures scanned { Scanned text.now result tokens.old tokens.new }
+    ensures untouched { Untouched result tokens.old tokens.new }
 {
-    let n = scan_text(words, infos, text, kinds, poss, lens);
+    let n = scan_text(text, tokens);
     let end = text.len() + 1;
-    token::put(kinds, poss, lens, n, EOF, end as u16, 0);
+    tokens[n] = Token {
+        kind: EOF,
+        pos: end as u16,
+        len: 0,
+    };
     n + 1
-}
-
-// The word list, and what is kept of each word, to be lent. Each constant stands alone in a function, since all that follows it in the same
-// one is proved with its numbers in view.
-fn word_texts() -> [[u8; 10]; 55]
-    ensures { result ≡ map padded word_list }
-{
-    WORDS
-}
-
-fn word_infos() -> [[u8; 3]; 55]
-    ensures { result ≡ zip_with info_of word_list next_places }
-{
-    INFOS
-}
-
-// Writes the tokens of a text of at most 256 bytes; their number is returned. What lies beyond them is untouched, in each of the
-// three arrays.
-pub fn scan_tokens(text: &[u8], kinds: &mut [u8], poss: &mut [u16], lens: &mut [u16]) -> usize
-    requires { (length text.now ≤ 256) × Room (length text.now + 1) kinds.old poss.old lens.old }
-    ensures scanned { Scanned text.now result (rows kinds.old poss.old lens.old)
-        (rows kinds.new poss.new lens.new) }
-    ensures untouched { Untouched result kinds.old poss.old lens.old
-        kinds.new poss.new lens.new }
-{
-    let words = word_texts();
-    let infos = word_infos();
-    scan_to_end(&words, &infos, text, kinds, poss, lens)
 }

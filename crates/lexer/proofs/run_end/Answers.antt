@@ -1,30 +1,22 @@
--- The invariant: the run ends where the rest of it does.
--- Assumes nothing.
-use mathlib.Core.Path.{refl, sym, ◌∙◌}
-use Prim.Native.Nat.{◌-◌}
-use native.Mathlib.Omega.{arith}
-use borrow.Author.Tests.{not-true, not-false}
-use Rattle.lexer.proofs.Runs.{run_done, run_stop, run_turn}
+-- The run ends at the first place where no letter stands, or with the text.
+use Rattle.std.proofs.Common.{◌≡◌, ℕ, ◌+◌, ◌-◌, List, length, drop, take, arith, rules, refl, ◌∙◌, sym, ap, length-drop}
+use Rattle.std.specs.Prelude.{not, unwrap_or}
+use Rattle.std.proofs.lemmas.Iterator.{YieldsList-from_slice}
+use Rattle.std.proofs.lemmas.Iterator.Search.{position_from_yields_List}
+use borrow.Author.Tests.{tests}
+use lib.Seq.{take_all}
+use native.Mathlib.Nat.{le_of_eq}
+use Rattle.lexer.specs.Words.{is_letter}
+use Rattle.lexer.proofs.Runs.{run_found, run_within}
 use Rattle.lexer.proofs.run_end.Goals as goal
 
-pub loop-end-init : goal.loop-end-init
-loop-end-init c = (omega arith, refl)
-
-pub overflow_cast-b : goal.overflow_cast-b
-overflow_cast-b c = omega (arith, c.shared_slice_known-in-loop-end-1.given c.loop-end.end)
-
-pub returns-then-not-is_letter : goal.returns-then-not-is_letter
-returns-then-not-is_letter c =
-    let a = c.args in
-    let e = sym c.is_letter.ensures ∙ not-true _ c.if-not-is_letter.true-raw in
-    omega (arith, run_stop a.text.now c.loop-end.end c.loop-end-test.true e)
-
-pub loop-end-preserved : goal.loop-end-preserved
-loop-end-preserved c =
-    let a = c.args in
-    let e = sym c.is_letter.ensures ∙ not-false _ c.if-not-is_letter.false-raw in
-    let t = run_turn a.text.now c.loop-end.end c.loop-end-test.true e in
-    (omega arith, omega (arith, t))
-
 pub returns : goal.returns
-returns c = omega (arith, run_done c.args.text.now c.loop-end.end c.loop-end-test.false)
+returns c =
+    let a = c.args in
+    let s = drop a.at a.text.now in
+    let whole : take (length a.text.now - a.at) s ≡ s = take_all _ _ (le_of_eq (length-drop a.at a.text.now)) in
+    let found = position_from_yields_List (λ b. not (is_letter b)) _ _ c.position.result c.position.ensures.ran (YieldsList-from_slice s (c.iter.ensures.rest ∙ whole)) (λ x b q k. search (rules, tests)) in
+    ap (λ (n : ℕ). a.at + n)
+    (c.unwrap_or.ensures
+    ∙ ap (λ (l : List ℕ). unwrap_or c.position.result (length l)) whole
+    ∙ run_found s c.position.result found)

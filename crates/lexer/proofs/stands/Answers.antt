@@ -1,26 +1,32 @@
--- A word that would end behind the last end is longer than the letter run, since it has at most as many letters as the longest word.
--- Assumes nothing.
-use mathlib.Core.Path.{sym}
-use native.Mathlib.Omega.{arith}
-use lib.ListN.{drop, length-drop}
-use Rattle.lexer.proofs.Chains.{begins_far, longest_is}
+-- A word lies within the part up to the last end that is tried, if it stands there.
+use Rattle.std.proofs.Common.{◌≡◌, ◌≤◌, ◌-◌, ℕ, List, ◌∙◌, ap, length, drop, take, min, arith, rules, length-drop}
+use lib.Dec.{eqb}
+use Rattle.std.specs.Cmp.Lexicographic.{pointwise}
+use Rattle.lexer.specs.State.{longest_word, letters_in, word_at}
+use Rattle.lexer.specs.Words.{run_end}
+use Rattle.lexer.specs.declared.Row.{Row}
 use Rattle.lexer.proofs.Runs.{run_within, word_fits}
+use Rattle.lexer.proofs.Words.{row_letters, stands_within}
 use Rattle.lexer.proofs.stands.Goals as goal
 
-pub overflow_add-at : goal.overflow_add-at
-overflow_add-at c =
-    let p = c.requires in
-    omega (arith, p.1.place, p.1.size, (word_fits c.args.i p.1.listed).short, p.3)
+pub shared_ref_as_front-letters : goal.shared_ref_as_front-letters
+shared_ref_as_front-letters c =
+    omega (arith, c.from.ensures, ap (λ (r : Row). r.1) c.word_row.ensures, (word_fits c.args.i c.requires.0).short)
 
-pub returns-then-last-at : goal.returns-then-last-at
-returns-then-last-at c =
-    let a = c.args in
-    let p = c.requires in
-    let f = (word_fits a.i p.1.listed).short in
-    sym (begins_far a.i p.1.listed (drop a.at a.text.now) (omega (arith, p.1.size, p.2, longest_is)))
+pub slice_bounds-run-end : goal.slice_bounds-run-end
+slice_bounds-run-end c =
+    let text = c.args.text.now in
+    let run = run_within (drop c.args.at text) in
+    let rest = length-drop c.args.at text in
+    let start : c.args.at ≤ c.args.last = omega (arith, c.requires.2) in
+    let end : c.args.last ≤ length text = omega (arith, run, rest, c.requires.2) in
+    search rules
 
-pub matches-requires : goal.matches-requires
-matches-requires c =
-    let a = c.args in
-    let p = c.requires in
-    (p.0, p.1, omega (arith, p.1.place, p.2, run_within (drop a.at a.text.now), length-drop a.at a.text.now))
+pub returns : goal.returns
+returns c =
+    let s = drop c.args.at c.args.text.now in
+    let e : c.args.last - c.args.at ≡ min (run_end s) longest_word = omega (arith, c.requires.2) in
+    c.starts_with.ensures.value
+    ∙ ap (λ (p : List ℕ). pointwise eqb p (take (length p) (take (c.args.last - c.args.at) s)))
+    (row_letters c.args.i c.word_row.ensures c.from.ensures)
+    ∙ stands_within c.args.i c.requires.0 s (c.args.last - c.args.at) e
