@@ -1,11 +1,20 @@
 -- What the code gave: the reader's step, its bar as a part of the line, and the reader after it.
-use Rattle.std.specs.Prelude.{List, ◌≡◌, ℕ}
+use Rattle.std.specs.Prelude.{Bor, List, ◌≡◌, ℕ}
 use Rattle.bars.specs.Bars.{place_at}
 use Rattle.bars.specs.State.{Part}
-use Rattle.song.specs.State.{Stepped}
-use Rattle.song.specs.declared.Step.{Step}
+use Rattle.song.specs.State.{Step, Stepped, shown}
+use Rattle.song.specs.declared.Step.{Step as CodeStep}
 use Rattle.line_reader.specs.declared.LineReader.{LineReader}
-use Rattle.line_reader.specs.declared.NextStep.{NextStep}
+use Rattle.line_reader.specs.declared.NextStep.{NextStep as CodeNextStep}
+
+-- what the reader's step shows: the step, its bar, and the reader after it
+pub record NextStep : Type 0 where
+  pub step : Step
+  pub bar : Bor (List ℕ)
+  pub reader : LineReader
+
+abbrev pub next_shown : CodeNextStep → NextStep
+next_shown t = record { step = shown t.step; bar = t.bar; reader = t.reader }
 
 -- what a caller of `next` knows: the reader r gave t; "hands out the next bar as a part of the line"
 pub record NextStepped (r : LineReader) (t : NextStep) (es es' : List ℕ) : Type 0 where
@@ -15,7 +24,7 @@ pub record NextStepped (r : LineReader) (t : NextStep) (es es' : List ℕ) : Typ
   pub at : t.reader.at ≡ (place_at r.line.now r.at).next
 
 -- bookkeeping of a private contract: the step s is handed out as t
-pub record Handed (r : LineReader) (s : Step) (t : NextStep) : Type 0 where
+pub record Handed (r : LineReader) (s : CodeStep) (t : CodeNextStep) : Type 0 where
   pub step : t.step ≡ s
   pub bar : Part r.line s.from s.to t.bar
   pub line : t.reader.line ≡ r.line

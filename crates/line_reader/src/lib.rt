@@ -2,8 +2,8 @@
 #![tactic(auto)]
 
 ghost use Rattle.std.specs.Prelude.{◌≡◌, ◌≤◌, length};
-ghost use Rattle.song.specs.State.{Stepped};
-ghost use Rattle.line_reader.specs.State.{Handed, NextStepped};
+ghost use Rattle.song.specs.State.{Stepped, shown};
+ghost use Rattle.line_reader.specs.State.{Handed, NextStepped, next_shown};
 
 use song::Step;
 
@@ -31,7 +31,7 @@ pub fn new<'a>(line: &'a [u8], at: usize) -> LineReader<'a>
 
 // The step at a reader's position.
 fn step_of<'a>(r: LineReader<'a>, errs: &mut [u16]) -> Step
-    ensures { Stepped r.entry.line.now r.entry.at result errs.old errs.new }
+    ensures { Stepped r.entry.line.now r.entry.at (shown result) errs.old errs.new }
 {
     song::step_at(r.line, r.at, errs)
 }
@@ -54,7 +54,7 @@ fn hand_out<'a>(r: LineReader<'a>, s: Step) -> NextStep<'a>
 
 // The reader's next step, with any lent list.
 pub fn next<'a>(r: LineReader<'a>, errs: &mut [u16]) -> NextStep<'a>
-    ensures { NextStepped r.entry result errs.old errs.new }
+    ensures { NextStepped r.entry (next_shown result) errs.old errs.new }
 {
     let s = step_of(r, errs);
     hand_out(r, s)

@@ -11,13 +11,10 @@ use Rattle.bars.specs.Bars.{bar_at, place_at}
 use Rattle.bars.specs.declared.Found.TheVariants as found
 use Rattle.bars.specs.declared.Found.{Found}
 use Rattle.bars.specs.declared.Place.{Place}
-use Rattle.reader.specs.Reader.{read_of}
+use Rattle.reader.specs.Reader.{Reading, read_of}
 use Rattle.reader.specs.State.{Read}
-use Rattle.reader.specs.declared.Reading.{Reading}
 use Rattle.song.specs.Song.{StepOutcome, bar, outcome_of, step_of}
-use Rattle.song.specs.State.{StepGave, Stepped}
-use Rattle.song.specs.declared.Answer.TheVariants.{TooLong, End, Bar}
-use Rattle.song.specs.declared.Step.{Step}
+use Rattle.song.specs.State.{StepGave, Stepped, Step, TooLong, End, Bar}
 
 module _ (line : List ℕ) (p : ℕ) (q : Place) (e : q ≡ place_at line p) where
   pub found_within : (q.from ≤ q.to) × (q.to ≤ length line)

@@ -22,9 +22,10 @@ use Rattle.parser.specs.Parser.{parse_of}
 use Rattle.reader.proofs.Answers.{Asked, Way, accept, asked_first, blank, bytes, enough, long, long_list, parse, short, validation, way}
 use Rattle.reader.specs.Reader.{IsAccepted, ReadOutcome, answer_to, count_of, is_blank, number_of, read_of, tokens_in}
 use Rattle.reader.specs.State.{Read}
-use Rattle.reader.specs.declared.Answer.TheVariants.{Accepted, LongText, NotUtf8, Parse, ShortList, Validation}
-use Rattle.reader.specs.declared.Answer.{Answer}
-use Rattle.reader.specs.declared.Reading.{Reading}
+use Rattle.reader.specs.declared.Refusal.TheVariants.{LongText, NotUtf8, Parse, ShortList, Validation}
+use Rattle.std.specs.Prelude.{Some, None}
+use Rattle.reader.specs.Reader.{Answer}
+use Rattle.reader.specs.Reader.{Reading}
 use Rattle.theorems.proofs.Counts.{tokens_most}
 use Rattle.theorems.proofs.Decoding.{decoded, fifty_one_bytes}
 use Rattle.theorems.proofs.Errors as errors
@@ -279,15 +280,15 @@ read_record_lem text es es' r g = (
 
 -- the answer of a number and a count
 abbrev answer_of : ℕ → ℕ → Answer
-answer_of n c = get_or (Accepted ∷ ShortList ∷ LongText ∷ NotUtf8 ∷ Parse c ∷ []) n (Validation c)
+answer_of n c = get_or (None ∷ Some ShortList ∷ Some LongText ∷ Some NotUtf8 ∷ Some (Parse c) ∷ []) n (Some (Validation c))
 
 answer_back : (a : Answer) → answer_of (number_of a) (count_of a) ≡ a
-answer_back Accepted = refl
-answer_back ShortList = refl
-answer_back LongText = refl
-answer_back NotUtf8 = refl
-answer_back (Parse n) = refl
-answer_back (Validation n) = refl
+answer_back None = refl
+answer_back (Some ShortList) = refl
+answer_back (Some LongText) = refl
+answer_back (Some NotUtf8) = refl
+answer_back (Some (Parse n)) = refl
+answer_back (Some (Validation n)) = refl
 
 pub read_apart_lem : ReadApart
 read_apart_lem a b e c = sym (answer_back a) ∙ (λ i. answer_of (e i) (c i)) ∙ answer_back b

@@ -22,9 +22,9 @@ use Rattle.nophtris.specs.State as C
 use Rattle.nophtris.specs.Boundary.{chord_bytes, four_in, inside, note_in, values_in}
 use Rattle.reader.proofs.Answers.{long_text}
 use Rattle.reader.specs.Reader.{IsAccepted, ReadOutcome, is_blank}
-use Rattle.reader.specs.declared.Answer.TheVariants.{Accepted}
-use Rattle.reader.specs.declared.Reading.{Reading}
-use Rattle.song.specs.declared.Answer.TheVariants.{Bar}
+use Rattle.reader.specs.Reader.{Accepted}
+use Rattle.reader.specs.Reader.{Reading}
+use Rattle.song.specs.State.{Bar}
 use Rattle.theorems.proofs.Decoding.{decoded}
 use Rattle.theorems.proofs.Readings.{c_read_untouched_lem, c_reads, read_apart_lem, read_untouched_lem, reads_as, root_or_blank}
 use Rattle.theorems.proofs.Trips.{c_spelled, c_writes, same-four, writes}

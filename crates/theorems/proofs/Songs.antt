@@ -14,8 +14,8 @@ use Rattle.chord.specs.declared.Chord.{Chord}
 use Rattle.reader.specs.Reader.{read_of}
 use Rattle.song.specs.Song.{StepOutcome, bar, eight, end, outcome_of, step_of}
 use Rattle.song.specs.State.{StepGave, Stepped}
-use Rattle.song.specs.declared.Answer.TheVariants.{TooLong, End, Bar}
-use Rattle.song.specs.declared.Answer.{Answer}
+use Rattle.song.specs.State.{TooLong, End, Bar}
+use Rattle.song.specs.State.{Answer}
 use Rattle.line_reader.specs.declared.LineReader.{LineReader}
 use Rattle.theorems.proofs.Walks.{all_say, answers, from_start, handed_line}
 use Rattle.theorems.specs.Song.{AllBars, AlwaysEight, Answers, BarsFrom, Call, CallReads, CallSays, Calls, HandedOut, NextAllBars, NextAlwaysEight, NextBarsFrom, NextCall, NextCalls, NextHandedOut, NextReads, NextSays, NextTurns, ReadsBar, ReadsNone, SaysBar, StepTurns, Turn, bars_from, cut_by}

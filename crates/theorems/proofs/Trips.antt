@@ -15,7 +15,7 @@ use Rattle.house_text.specs.Spelling.{house}
 use Rattle.reader.specs.Reader as reader
 use Rattle.reader.specs.Reader.{IsAccepted, answer_to}
 use Rattle.reader.specs.State.{Read}
-use Rattle.reader.specs.declared.Reading.{Reading}
+use Rattle.reader.specs.Reader.{Reading}
 use Rattle.theorems.proofs.Decoding.{decoded}
 use Rattle.theorems.proofs.Readings.{c_read_accepted, c_reads, read-accepted, reads_as}
 use Rattle.theorems.proofs.Writings.{c_write_numbered_lem, c_write_zero, spelled-bytes, write-numbered, write-spelled}

@@ -5,7 +5,7 @@ use Rattle.lexer.specs.Lexer.{digit_of, is_digit, tokens_of}
 use Rattle.positions.specs.Positions.{mapped, moved, moved_outcome}
 use Rattle.reader.specs.Reader.{answer_to, count_of}
 use Rattle.reader.specs.State.{Read}
-use Rattle.reader.specs.declared.Reading.{Reading}
+use Rattle.reader.specs.Reader.{Reading}
 use Rattle.nophtris.specs.State as C
 use Rattle.utf8.specs.Utf8.{WellFormed, encode, encode_all}
 

@@ -10,8 +10,8 @@ use Rattle.expression.specs.declared.parser_error.ParserError.{ParserError}
 use Rattle.parser.specs.Parser.{parse_of}
 use Rattle.reader.specs.Reader.{IsAccepted, answer_to, count_of, is_blank, number_of, tokens_in}
 use Rattle.reader.specs.State.{Read}
-use Rattle.reader.specs.declared.Answer.{Answer}
-use Rattle.reader.specs.declared.Reading.{Reading}
+use Rattle.reader.specs.Reader.{Answer}
+use Rattle.reader.specs.Reader.{Reading}
 use Rattle.utf8.specs.Utf8.{WellFormed}
 use Rattle.validator.specs.Validator.{validation_of}
 

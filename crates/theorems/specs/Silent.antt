@@ -11,10 +11,10 @@ use Rattle.nophtris.specs.State as C
 use Rattle.reader.specs.Reader as reader
 use Rattle.reader.specs.Reader.{IsAccepted, is_blank}
 use Rattle.reader.specs.State.{Read}
-use Rattle.reader.specs.declared.Answer.TheVariants.{Accepted}
-use Rattle.reader.specs.declared.Reading.{Reading}
-use Rattle.song.specs.declared.Answer as song
-use Rattle.song.specs.declared.Answer.TheVariants.{Bar}
+use Rattle.reader.specs.Reader.{Accepted}
+use Rattle.reader.specs.Reader.{Reading}
+use Rattle.song.specs.State as song
+use Rattle.song.specs.State.{Bar}
 use Rattle.theorems.specs.CSong.{Call, CallReads}
 use Rattle.theorems.specs.Song.{ReadsBar}
 use Rattle.writer.specs.State.{Written}

@@ -9,14 +9,14 @@ use Rattle.bars.specs.Bars.{bar_end, bars_of, longest_line, stroke, strokes}
 use Rattle.bars.specs.State.{Line, Part}
 use Rattle.parser.specs.All.{All}
 use Rattle.reader.specs.State.{Read}
-use Rattle.reader.specs.declared.Answer.{Answer as ReadAnswer}
+use Rattle.reader.specs.Reader.{Answer as ReadAnswer}
 use Rattle.line_reader.specs.State.{NextStepped}
 use Rattle.line_reader.specs.declared.LineReader.{LineReader}
-use Rattle.line_reader.specs.declared.NextStep.{NextStep}
+use Rattle.line_reader.specs.State.{NextStep}
 use Rattle.song.specs.State.{Stepped}
-use Rattle.song.specs.declared.Answer.TheVariants.{TooLong, End, Bar}
-use Rattle.song.specs.declared.Answer.{Answer}
-use Rattle.song.specs.declared.Step.{Step}
+use Rattle.song.specs.State.{TooLong, End, Bar}
+use Rattle.song.specs.State.{Answer}
+use Rattle.song.specs.State.{Step}
 
 -- ---- the bars of a line
 

@@ -5,7 +5,7 @@ use Rattle.chord.specs.Chord.{four_of}
 use Rattle.chord.specs.declared.Chord.{Chord}
 use Rattle.reader.specs.Reader as reader
 use Rattle.reader.specs.State.{Read}
-use Rattle.reader.specs.declared.Reading.{Reading}
+use Rattle.reader.specs.Reader.{Reading}
 use Rattle.theorems.specs.Writing.{Spelled}
 use Rattle.writer.specs.State.{Written}
 use Rattle.writer.specs.Writer.{length_of, number_of}
