@@ -9,7 +9,8 @@ use Rattle.expression.proofs.AllNumbers.{all_append}
 use Rattle.expression.specs.ParserError.{all_numbers, numbers_of}
 use Rattle.expression.specs.declared.parser_error.ParserError.{ParserError}
 use Rattle.step.specs.declared.effect.Effect.{Effect}
-use Rattle.token.specs.Token.{Token, type_of}
+use Rattle.token.specs.Token.{type_of}
+use Rattle.token.specs.declared.Token.{Token}
 use Rattle.parser.proofs.Effects.{error_coded}
 use Rattle.parser.specs.Parser.{Parsing, ahead_of, applied, blank, effect_at, error_of, here_of, itself, next_at, parse_by, parse_of, root_effect, root_of, stack_turn, token_turn, walk}
 

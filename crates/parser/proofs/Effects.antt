@@ -2,10 +2,12 @@
 use mathlib.Core.Bool.{Bool, true, false, cond}
 use mathlib.Core.List.{List, [], ◌++◌}
 use mathlib.Core.Path.{◌≡◌, refl, sym, ap, subst, ◌∙◌}
-use Prim.Native.Nat.{ℕ, ◌+◌, ◌*◌, ◌≤◌, ◌<◌}
+use Prim.Native.Nat.{ℕ, ◌+◌, ◌-◌, ◌*◌, ◌≤◌, ◌<◌}
 use native.Mathlib.Omega.{arith}
 use lib.IntN.{ℤ}
-use lib.ListN.{length, get_or, take}
+use lib.ListN.{length, take, drop}
+use Rattle.std.specs.Prelude.{Option}
+use Rattle.std.proofs.lemmas.List.{take_rest}
 use lib.Signed.{mag}
 use mir.Facts.{to_z-of_z}
 use mir.Syntax.{w16}
@@ -16,27 +18,27 @@ use Rattle.note.specs.declared.RootModifier.TheVariants.{Sharp, Flat}
 use Rattle.expression.specs.ParserError.{all_numbers, numbers_of}
 use Rattle.expression.specs.State.{Wrote}
 use Rattle.expression.specs.declared.expression.Exp.{Exp}
-use Rattle.step.proofs.Laws.{inside-small}
+use Rattle.step.proofs.Laws.{inside-small, step_small}
 use Rattle.step.specs.Bounds.{Small, gains_count}
-use Rattle.step.specs.Step.{add_step, aug_step, hyphen_step, inside_of, modifier_step, omit_step, slash_step, sus_step}
+use Rattle.step.specs.Step.{add_step, aug_step, hyphen_step, inside_of, modifier_step, omit_step, slash_step, step_of, sus_step}
 use Rattle.lookahead.specs.Next.{is_sign}
 use Rattle.step.specs.declared.effect.Effect.{Effect}
 use Rattle.step.specs.declared.effect.Gains.TheVariants.{None, One, Two}
 use Rattle.step.specs.declared.effect.Gains.{Gains}
 use Rattle.step.specs.declared.effect.Here.{Here}
-use Rattle.step.specs.declared.effect.OptionalError.TheVariants as error
-use Rattle.step.specs.declared.effect.OptionalError.{OptionalError}
+use Rattle.step.specs.Effect.{OptionalError}
 use Rattle.lookahead.specs.declared.Ahead.{Ahead}
 use Rattle.lookahead.specs.declared.Next.{Next}
-use Rattle.token.specs.Token.{type_of}
+use Rattle.token.specs.Token.{at, bracket_kind, type_of}
+use Rattle.token.specs.declared.Token.{Token}
 use Rattle.token.specs.declared.Bracket.TheVariants.{Opens, Closes, Ends, Other}
 use Rattle.token.specs.declared.Bracket.{Bracket}
 use Rattle.token.specs.declared.TokenType.TheVariants as type
 use Rattle.token.specs.declared.TokenType.{TokenType}
-use Rattle.parser.specs.Parser.{Parsing, error_of, gains_of, itself, root_effect}
-use Rattle.parser.specs.State.{EffectDone, Fits, Gained, Ready, Foreseen, ahead_in, reach_of, effect_in, here_in, start}
+use Rattle.parser.specs.Parser.{Parsing, ahead_of, error_of, gains_of, itself, root_effect}
+use Rattle.parser.specs.State.{EffectDone, Fits, Gained, Ready, Foreseen, effect_by, effect_in, here_in, start}
 use Rattle.parser.specs.declared.state.State.{State}
-use Rattle.parser.proofs.Lists.{gained-none, gained-numbered}
+use Rattle.parser.proofs.Lists.{gained-none}
 
 pub gains-length : (g : Gains) → length (gains_of g) ≡ gains_count g
 gains-length None = refl
@@ -45,13 +47,13 @@ gains-length (Two e f) = refl
 
 -- an effect has one error or none
 pub error_most : (e : OptionalError) → length (error_of itself e) ≤ 1
-error_most error.None = omega arith
-error_most (error.Some e) = omega arith
+error_most optional.None = omega arith
+error_most (optional.Some e) = omega arith
 
 -- its numbers
 pub error_coded : (e : OptionalError) → all_numbers (error_of itself e) ≡ error_of numbers_of e
-error_coded error.None = refl
-error_coded (error.Some e) = refl
+error_coded optional.None = refl
+error_coded (optional.Some e) = refl
 
 abbrev after : State → Effect → ℕ → ℕ → State
 after st e n m = record { at = st.at + 1 + e.taken; count = e.count; context = e.context; errors = n; exps = m }
@@ -59,7 +61,7 @@ after st e n m = record { at = st.at + 1 + e.taken; count = e.count; context = e
 abbrev found : Effect → List ℕ → List Exp → Parsing ℕ
 found e es xs = record { skip = 0; count = e.count; context = e.context; errs = es; exps = xs }
 
-pub did_effect : (st : State) (e : Effect) {n m : ℕ} {es es' xs xs' : List ℕ} → Wrote st.errors n (error_of itself e.error) es es' → Gained st.exps m (gains_of e.gains) xs xs'
+pub did_effect : (st : State) (e : Effect) {n m : ℕ} {es es' : List ℕ} {xs xs' : List Exp} → Wrote st.errors n (error_of itself e.error) es es' → Gained st.exps m (gains_of e.gains) xs xs'
     → Ready st → st.at < 257 → Fits st e → EffectDone e st (after st e n m) es es' xs xs'
 did_effect st e {n} {m} {es} {es'} {xs} {xs'} s g ready h fits =
     let k : m ≡ st.exps + gains_count e.gains = rw (← gains-length e.gains) g.count in
@@ -67,7 +69,7 @@ did_effect st e {n} {m} {es} {es'} {xs} {xs'} s g ready h fits =
     let one = error_most e.error in
     record {
       same = λ i. found e (l i) (g.list i);
-      kept = record { more = omega (arith, s.count); gains = omega (arith, k); rest = s.rest; others = g.rest; numbered = gained-numbered g };
+      kept = record { more = omega (arith, s.count); gains = omega (arith, k); rest = s.rest; others = g.rest };
       moved = refl;
       ready = record {
         small = omega (arith, fits.taken);
@@ -88,43 +90,53 @@ fits_small : {h : Here} {e : Effect} {st : State} → Small h e → h.context �
 fits_small {h} {e} {st} s c d = record { gained = rw (← c) s.gained; counted = rw (← d) s.counted; taken = s.taken }
 
 -- a token has the same effect before all tokens ahead that tell it what it asks for
-told : (b : Bracket) (q : ℕ) (k : TokenType) (h : Here) {x y : Ahead} → Foreseen (reach_of k) y x → inside_of b q k h x ≡ inside_of b q k h y
-told Opens q k h f = refl
-told Closes q k h f = refl
-told Ends q k h f = refl
-told Other q (type.Note l) h f = refl
-told Other q type.Sharp h f = ap (modifier_step Sharp h) (f.next refl)
-told Other q type.Flat h f = ap (modifier_step Flat h) (f.next refl)
-told Other q type.Aug h f = ap (aug_step h) (f.next refl)
-told Other q type.Dim h f = refl
-told Other q type.Dim7 h f = refl
-told Other q type.HalfDim h f = refl
-told Other q (type.Extension m) h f = refl
-told Other q type.Add h f = ap (add_step h) (f.all refl)
-told Other q type.Omit h f = ap (omit_step h) (f.next refl)
-told Other q type.Alt h f = refl
-told Other q type.Sus h f = ap (sus_step h) (f.next refl)
-told Other q type.Minor h f = refl
-told Other q type.Hyphen h f = ap (hyphen_step h) (f.next refl)
-told Other q type.Maj h f = refl
-told Other q type.Maj7 h f = refl
-told Other q type.Slash h f = ap (slash_step h) (f.all refl)
-told Other q type.LParent h f = refl
-told Other q type.RParent h f = refl
-told Other q type.Comma h f = refl
-told Other q type.Bass h f = refl
-told Other q type.Illegal h f = refl
-told Other q type.Eof h f = refl
+told : (k : TokenType) (h : Here) (x y : Ahead) → Foreseen k y x → step_of k h x ≡ step_of k h y
+told (type.Note l) h x y f = refl
+told type.Sharp h x y f = ap (modifier_step Sharp h) f
+told type.Flat h x y f = ap (modifier_step Flat h) f
+told type.Aug h x y f = ap (aug_step h) f
+told type.Dim h x y f = refl
+told type.Dim7 h x y f = refl
+told type.HalfDim h x y f = refl
+told (type.Extension m) h x y f = refl
+told type.Add h x y f = ap (add_step h) f
+told type.Omit h x y f = ap (omit_step h) f
+told type.Alt h x y f = refl
+told type.Sus h x y f = ap (sus_step h) f
+told type.Minor h x y f = refl
+told type.Hyphen h x y f = ap (hyphen_step h) f
+told type.Maj h x y f = refl
+told type.Maj7 h x y f = refl
+told type.Slash h x y f = ap (slash_step h) f
+told type.LParent h x y f = refl
+told type.RParent h x y f = refl
+told type.Comma h x y f = refl
+told type.Bass h x y f = refl
+told type.Illegal h x y f = refl
+told type.Eof h x y f = refl
 
-module _ (ks ps ls xs : List ℕ) (st : State) where
-  abbrev K : TokenType
-  K = type_of (get_or ks st.at 0)
+told_by : (inside : Option ℕ) (k : TokenType) (h : Here) (x y : Ahead) → Foreseen k y x → effect_by inside k h x ≡ effect_by inside k h y
+told_by optional.None k h x y f = told k h x y f
+told_by (optional.Some q) k h x y f = in_bracket (bracket_kind k)
+  where
+    in_bracket : (b : Bracket) → inside_of b q k h x ≡ inside_of b q k h y
+    in_bracket Opens = refl
+    in_bracket Closes = refl
+    in_bracket Ends = refl
+    in_bracket Other = told k h x y f
 
-  -- what the token step decides of the token at st is its effect, and fits the state
-  pub effect_at_lem : (b : Bracket) (q : ℕ) {k : TokenType} {h : Here} {a : Ahead} {r : Effect} → k ≡ K → h ≡ here_in ps ls xs st → Foreseen (reach_of k) (ahead_in ks ps (st.at + 1)) a → r ≡ inside_of b q k h a → (r ≡ effect_in ks ps ls xs st b q) × Fits st r
-  effect_at_lem b q {k} {h} {a} {r} ek eh ea er =
-      let e : r ≡ effect_in ks ps ls xs st b q = er ∙ told b q k h ea ∙ (λ i. inside_of b q (ek i) (eh i) (ahead_in ks ps (st.at + 1))) in
-      (e, subst (Fits st) (sym e) (fits_small (inside-small b q K (here_in ps ls xs st) (ahead_in ks ps (st.at + 1))) refl refl))
+by_small : (inside : Option ℕ) (k : TokenType) (h : Here) (a : Ahead) → Small h (effect_by inside k h a)
+by_small optional.None k h a = step_small k h a
+by_small (optional.Some q) k h a = inside-small (bracket_kind k) q k h a
+
+-- what the token step decides of the token at st, from the tokens behind it, is its effect, and fits the state
+pub effect_at_lem : (ts : List Token) (xs : List Exp) (st : State) (inside : Option ℕ) {k : TokenType} {h : Here} (a : Ahead) {r : Effect}
+    → k ≡ type_of (at ts st.at).kind → h ≡ here_in (at ts st.at) xs st → Foreseen k (ahead_of (take (length ts - (st.at + 1)) (drop (st.at + 1) ts))) a → r ≡ effect_by inside k h a
+    → (r ≡ effect_in ts xs st inside) × Fits st r
+effect_at_lem ts xs st inside {k} {h} a {r} ek eh ea er =
+    let e : r ≡ effect_in ts xs st inside = er ∙ told_by inside k h a _ (subst (λ (l : List Token). Foreseen k (ahead_of l) a) (take_rest ts (st.at + 1)) ea) ∙ (λ i. effect_by inside (ek i) (eh i) (ahead_of (drop (st.at + 1) ts))) in
+    let s = by_small inside (type_of (at ts st.at).kind) (here_in (at ts st.at) xs st) (ahead_of (drop (st.at + 1) ts)) in
+    (e, subst (Fits st) (sym e) (fits_small s refl refl))
 
 -- the root is the first token
 pub ready-start : Ready start
@@ -142,7 +154,7 @@ fits_root n nx {e} h = subst (Fits start) (sym h) (by n)
     by optional.None = record { gained = omega arith; counted = omega arith; taken = omega arith }
 
 -- the state after the root: its effect takes at most one token more, adds no expression and at most one error
-pub begun : (root : OptionalNote) (nx : Next) (xs : List ℕ) {e : Effect} {n : ℕ} {es es' : List ℕ} → e ≡ root_effect root nx → Wrote 0 n (error_of itself e.error) es es'
+pub begun : (root : OptionalNote) (nx : Next) (xs : List Exp) {e : Effect} {n : ℕ} {es es' : List ℕ} → e ≡ root_effect root nx → Wrote 0 n (error_of itself e.error) es es'
     → EffectDone (root_effect root nx) start (record { at = 1 + e.taken; count = to_z w16 (of_z w16 e.count); context = e.context; errors = n; exps = 0 }) es es' xs xs
 begun root nx xs {e} {n} {es} {es'} h s =
     let none : gains_of e.gains ≡ [] = ap (λ (d : Effect). gains_of d.gains) h ∙ no_gains root in

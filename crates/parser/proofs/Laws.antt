@@ -18,7 +18,8 @@ use Rattle.step.specs.declared.effect.Gains.{Gains}
 use Rattle.step.specs.declared.effect.Here.{Here}
 use Rattle.lookahead.specs.declared.Ahead.{Ahead}
 use Rattle.lookahead.specs.declared.Next.{Next}
-use Rattle.token.specs.Token.{Token, bracket_kind, type_of}
+use Rattle.token.specs.Token.{bracket_kind, type_of}
+use Rattle.token.specs.declared.Token.{Token}
 use Rattle.token.specs.declared.TokenType.{TokenType}
 use Rattle.parser.specs.All.{All}
 use Rattle.parser.specs.Parser.{Parsing, ahead_of, applied, blank, effect_at, error_of, gains_of, here_of, itself, next_at, parse_of, root_effect, root_of, skipping, stack_turn, token_turn, walk}

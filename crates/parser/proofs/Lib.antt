@@ -1,7 +1,6 @@
 -- What several proofs use.
 mod Lists
 pub mod Rows
-mod Six
 mod Effects
 mod Coded
 mod Walk

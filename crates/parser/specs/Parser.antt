@@ -8,6 +8,7 @@ use Rattle.expression.specs.declared.expression.Exp.{Exp}
 use Rattle.expression.specs.declared.parser_error.ParserError.TheVariants.{MissingRootNote}
 use Rattle.expression.specs.declared.parser_error.ParserError.{ParserError}
 use Rattle.lookahead.specs.Next.{is_sign, next_of, note_from, sign_in}
+use Rattle.step.specs.Effect.{OptionalError}
 use Rattle.step.specs.Step.{inside_of, step_of}
 use Rattle.step.specs.declared.context.Context.TheVariants as context
 use Rattle.step.specs.declared.context.Context.{Context}
@@ -15,11 +16,10 @@ use Rattle.step.specs.declared.effect.Effect.{Effect}
 use Rattle.step.specs.declared.effect.Gains.TheVariants as gains
 use Rattle.step.specs.declared.effect.Gains.{Gains}
 use Rattle.step.specs.declared.effect.Here.{Here}
-use Rattle.step.specs.declared.effect.OptionalError.TheVariants as error
-use Rattle.step.specs.declared.effect.OptionalError.{OptionalError}
 use Rattle.lookahead.specs.declared.Ahead.{Ahead}
 use Rattle.lookahead.specs.declared.Next.{Next}
-use Rattle.token.specs.Token.{Token, at, bracket_kind, type_of}
+use Rattle.token.specs.Token.{at, bracket_kind, type_of}
+use Rattle.token.specs.declared.Token.{Token}
 use Rattle.token.specs.declared.Bracket.TheVariants.{Opens, Closes, Ends, Other}
 use Rattle.token.specs.declared.Bracket.{Bracket}
 use Rattle.token.specs.declared.TokenType.{TokenType}
@@ -99,16 +99,16 @@ root_of ts = note_from (next_at ts 0) (sign_in (next_at ts 1))
 -- "The first token is consumed even when it is no note."
 abbrev pub root_effect : OptionalNote → Next → Effect
 root_effect (optional.Some n) nx =
-    record { taken = cond (is_sign nx) 1 0; count = pos 0; context = context.None; gains = gains.None; error = error.None }
+    record { taken = cond (is_sign nx) 1 0; count = pos 0; context = context.None; gains = gains.None; error = optional.None }
 root_effect optional.None nx =
-    record { taken = 0; count = pos 0; context = context.None; gains = gains.None; error = error.Some MissingRootNote }
+    record { taken = 0; count = pos 0; context = context.None; gains = gains.None; error = optional.Some MissingRootNote }
 
 -- the walk over the tokens. It never looks at the errors it has found, so what they are kept as is left open: `parse_of` keeps them as they
 -- are, and the code as numbers
 module _ {E : Type 0} (kept : ParserError → List E) where
   abbrev pub error_of : OptionalError → List E
-  error_of error.None = []
-  error_of (error.Some e) = kept e
+  error_of optional.None = []
+  error_of (optional.Some e) = kept e
 
   -- a token had the effect e
   abbrev pub applied : Effect → Parsing E → Parsing E

@@ -7,33 +7,33 @@ ghost use Rattle.parser.specs.State.{Ready, Fits, Space, Gained, EffectDone};
 
 use crate::state::State;
 use expression::expression::Exp;
-use expression::parser_error::store;
-use step::effect::{Effect, Gains, OptionalError};
+use expression::parser_error::{ParserError, store};
+use step::effect::{Effect, Gains};
 
 // Writes the error behind the first n, if there is one, and answers how many there are.
-pub(crate) fn push_error(errs: &mut [u16], n: usize, e: OptionalError) -> usize
+pub(crate) fn push_error(errs: &mut [u16], n: usize, e: Option<ParserError>) -> usize
     requires { 4 * n + 4 ≤ length errs.old }
     ensures { Wrote n result (error_of itself e) errs.old errs.new }
 {
     match e {
-        OptionalError::None => n,
-        OptionalError::Some(error) => {
+        None => n,
+        Some(error) => {
             store(errs, n, error);
             n + 1
         }
     }
 }
 
-fn push_exp(exps: &mut [u32], n: usize, e: Exp) -> usize
+fn push_exp(exps: &mut [Exp], n: usize, e: Exp) -> usize
     requires { n < length exps.old }
     ensures { Gained n result (e ∷ []) exps.old exps.new }
 {
-    exps[n] = e.number();
+    exps[n] = e;
     n + 1
 }
 
 // Writes the expressions behind the first n, and answers how many there are.
-fn push_exps(exps: &mut [u32], n: usize, gains: Gains) -> usize
+fn push_exps(exps: &mut [Exp], n: usize, gains: Gains) -> usize
     requires { n + gains_count gains ≤ length exps.old }
     ensures { Gained n result (gains_of gains) exps.old exps.new }
 {
@@ -48,20 +48,15 @@ fn push_exps(exps: &mut [u32], n: usize, gains: Gains) -> usize
 }
 
 // The state after the token at st.at, which has the effect e.
-pub(crate) fn apply(st: State, e: Effect, errs: &mut [u16], exps: &mut [u32]) -> State
+pub(crate) fn apply(st: State, e: Effect, errs: &mut [u16], exps: &mut [Exp]) -> State
     requires { Ready st × (st.at < 257) × Fits st e × Space errs.old exps.old }
     ensures { EffectDone e st result errs.old errs.new exps.old exps.new }
 {
-    let context = e.context;
-    let gains = e.gains;
-    let error = e.error;
-    let errors = push_error(errs, st.errors, error);
-    let n = push_exps(exps, st.exps, gains);
     State {
         at: st.at + 1 + e.taken,
         count: e.count,
-        context,
-        errors,
-        exps: n,
+        context: e.context,
+        errors: push_error(errs, st.errors, e.error),
+        exps: push_exps(exps, st.exps, e.gains),
     }
 }

@@ -1,21 +1,23 @@
 // The walk over the tokens: the root, then each token by the token step. The token step `take_token` and the bracket reader `read_tokens`
 // call each other.
-ghost use Rattle.std.specs.Prelude.{List, ◌≡◌, ℕ, ◌≤◌, ◌<◌, length};
-ghost use Rattle.token.specs.Token.{rows};
-ghost use Rattle.parser.specs.Parser.{opens, ends, root_effect};
-ghost use Rattle.parser.specs.State.{bracket_in, bracket_by, Ready, Space, Tokens, start, EffectDone, TookToken, Read, Parsed};
+ghost use Rattle.std.specs.Prelude.{List, ◌≡◌, ◌+◌, ◌≤◌, ◌<◌, length};
+ghost use Rattle.std.specs.Int.Signed.{mag};
+ghost use Rattle.expression.specs.declared.expression.Exp.{Exp};
+ghost use Rattle.parser.specs.Parser.{bracket_of, opens, root_effect};
+ghost use Rattle.parser.specs.State.{Ready, Space, Tokens, start, EffectDone, TookToken, Read, Parsed, effect_by, ends_by};
 
 use crate::apply::{apply, push_error};
 use crate::state::{State, ahead_of, here_at, next_at};
+use expression::expression::Exp;
 use expression::parser_error::ParserError;
-use lookahead::Next;
+use lookahead::{Ahead, Next};
 use note::Note;
 use step::context::Context;
-use step::effect::{Effect, Gains, OptionalError};
-use step::step::process_inside;
-use token::{Bracket, TokenType, bracket_kind};
+use step::effect::{Effect, Gains, Here};
+use step::step::{process_inside, process_token};
+use token::{Bracket, Token, TokenType, bracket_kind};
 
-// How many errors and expressions there are, and the root.
+// How many errors and expressions the lent lists hold, and the root.
 #[derive(Clone, Copy)]
 pub struct ParseResult {
     pub root: Option<Note>,
@@ -23,98 +25,78 @@ pub struct ParseResult {
     pub exps: usize,
 }
 
-// Does the token at i open a bracket?
-fn opens_at(kinds: &[u8], i: usize) -> bool
-    requires { i < length kinds.now }
-    ensures { result ≡ opens (bracket_in kinds.now i) }
+// What a token is to the bracket around it.
+fn bracket_of(token: Token) -> Bracket
+    ensures { result ≡ bracket_of token }
 {
-    match bracket_kind(TokenType::from_number(kinds[i])) {
-        Bracket::Opens => true,
-        Bracket::Closes => false,
-        Bracket::Ends => false,
-        Bracket::Other => false,
+    bracket_kind(TokenType::from_number(token.kind))
+}
+
+fn opens(token: Token) -> bool
+    ensures { result ≡ opens (bracket_of token) }
+{
+    bracket_of(token) == Bracket::Opens
+}
+
+// Does the token end the bracket opened at `inside`? Where none is open, no token does.
+fn ends(inside: Option<u16>, token: Token) -> bool
+    ensures { result ≡ ends_by inside (bracket_of token) }
+{
+    inside.is_some() && matches!(bracket_of(token), Bracket::Closes | Bracket::Ends)
+}
+
+// What the token step decides of a token in the bracket opened at `inside`, or outside any.
+fn effect_of(inside: Option<u16>, kind: TokenType, h: Here, a: Ahead) -> Effect
+    requires { (h.pos + h.len < 65535) × (mag h.count < 1000) }
+    ensures { result ≡ effect_by inside kind h a }
+{
+    match inside {
+        Some(pos) => process_inside(bracket_kind(kind), pos, kind, h, a),
+        None => process_token(kind, h, a),
     }
 }
 
-// Does the token end the bracket around it?
-fn is_end(bracket: Bracket) -> bool
-    ensures { result ≡ ends bracket }
-{
-    match bracket {
-        Bracket::Opens => false,
-        Bracket::Closes => true,
-        Bracket::Ends => true,
-        Bracket::Other => false,
-    }
-}
-
-// What the token at i is to the bracket around it, if one is open.
-fn bracket_at(inside: bool, kinds: &[u8], i: usize) -> Bracket
-    requires { i < length kinds.now }
-    ensures { result ≡ bracket_by inside kinds.now i }
-{
-    if inside {
-        return bracket_kind(TokenType::from_number(kinds[i]));
-    }
-    Bracket::Other
-}
-
-// The token step: decides what the token at st.at does, which is `bracket` to the bracket opened at `pos`, does it, and has the bracket
+// The token step: decides what the token at st.at does in the bracket opened at `inside`, or outside any, does it, and has the bracket
 // that it opens read.
 #[cycle(read_tokens_take_token)]
 fn take_token(
-    kinds: &[u8],
-    poss: &[u16],
-    lens: &[u16],
+    tokens: &[Token],
     st: State,
-    bracket: Bracket,
-    pos: u16,
+    inside: Option<u16>,
     errs: &mut [u16],
-    exps: &mut [u32],
+    exps: &mut [Exp],
 ) -> State
-    requires { Tokens kinds.now poss.now lens.now × (st.at < length kinds.now) × Ready st × Space errs.old exps.old }
-    ensures { TookToken kinds.now poss.now lens.now bracket pos st result
-        errs.old errs.new exps.old exps.new }
+    requires { Tokens tokens.now × (st.at < length tokens.now) × Ready st × Space errs.old exps.old }
+    ensures { TookToken tokens.now inside st result errs.old errs.new exps.old exps.new }
 {
-    let at = st.at;
-    let kind = TokenType::from_number(kinds[at]);
-    let e = process_inside(
-        bracket,
-        pos,
-        kind,
-        here_at(poss, lens, exps, st),
-        ahead_of(kind, kinds, poss, at + 1),
-    );
+    let token = tokens[st.at];
+    let kind = TokenType::from_number(token.kind);
+    let ahead = ahead_of(kind, &tokens[st.at + 1..]);
+    let e = effect_of(inside, kind, here_at(token, exps, st), ahead);
     let u = apply(st, e, errs, exps);
-    if opens_at(kinds, at) {
-        let opened = poss[at];
-        let r = read_tokens(kinds, poss, lens, u.copied(), true, opened, errs, exps);
+    if opens(token) {
+        let r = read_tokens(tokens, u.copied(), Some(token.pos), errs, exps);
         return r.copied();
     }
     u
 }
 
-// The bracket reader: takes tokens from st.at on, to the closing sign of the bracket opened at `pos`, or all of them where none is open.
+// The bracket reader: takes tokens from st.at on, to the closing sign of the bracket opened at `inside`, or all of them where none is open.
 #[cycle(read_tokens_take_token)]
 fn read_tokens(
-    kinds: &[u8],
-    poss: &[u16],
-    lens: &[u16],
+    tokens: &[Token],
     st: State,
-    inside: bool,
-    pos: u16,
+    inside: Option<u16>,
     errs: &mut [u16],
-    exps: &mut [u32],
+    exps: &mut [Exp],
 ) -> State
-    requires { Tokens kinds.now poss.now lens.now × Ready st × Space errs.old exps.old }
-    ensures { Read kinds.now poss.now lens.now inside pos st result errs.old
-        errs.new exps.old exps.new }
+    requires { Tokens tokens.now × Ready st × Space errs.old exps.old }
+    ensures { Read tokens.now inside st result errs.old errs.new exps.old exps.new }
 {
     let mut s = st;
-    while s.at < kinds.len() {
-        let bracket = bracket_at(inside, kinds, s.at);
-        let last = is_end(bracket);
-        s = take_token(kinds, poss, lens, s, bracket, pos, errs, exps);
+    while s.at < tokens.len() {
+        let last = ends(inside, tokens[s.at]);
+        s = take_token(tokens, s, inside, errs, exps);
         if last {
             return s;
         }
@@ -126,23 +108,22 @@ fn read_tokens(
 fn root_effect(root: Option<Note>, next: Next) -> Effect
     ensures { result ≡ root_effect root next }
 {
+    let nothing = Effect {
+        taken: 0,
+        count: 0,
+        context: Context::None,
+        gains: Gains::None,
+        error: None,
+    };
     match root {
-        Some(_) => {
-            let taken = if next.is_sign() { 1 } else { 0 };
-            Effect {
-                taken,
-                count: 0,
-                context: Context::None,
-                gains: Gains::None,
-                error: OptionalError::None,
-            }
-        }
+        Some(_) if next.is_sign() => Effect {
+            taken: 1,
+            ..nothing
+        },
+        Some(_) => nothing,
         None => Effect {
-            taken: 0,
-            count: 0,
-            context: Context::None,
-            gains: Gains::None,
-            error: OptionalError::Some(ParserError::MissingRootNote),
+            error: Some(ParserError::MissingRootNote),
+            ..nothing
         },
     }
 }
@@ -150,36 +131,27 @@ fn root_effect(root: Option<Note>, next: Next) -> Effect
 // The state after the first token; that of any other is `apply`'s. Only kind 9 can be written.
 fn begin(root: Option<Note>, next: Next, errs: &mut [u16]) -> State
     requires { 4 ≤ length errs.old }
-    ensures { (xs : List ℕ) → EffectDone (root_effect root next) start result errs.old errs.new xs xs }
+    ensures { (xs : List Exp) → EffectDone (root_effect root next) start result errs.old errs.new xs xs }
 {
     let e = root_effect(root, next);
-    let context = e.context;
-    let error = e.error;
     State {
         at: 1 + e.taken,
         count: e.count,
-        context,
-        errors: push_error(errs, 0, error),
+        context: e.context,
+        errors: push_error(errs, 0, e.error),
         exps: 0,
     }
 }
 
-// Reads the tokens that three arrays of one length hold, and writes what is found from the beginning of the two lists on.
-pub fn parse(
-    kinds: &[u8],
-    poss: &[u16],
-    lens: &[u16],
-    errs: &mut [u16],
-    exps: &mut [u32],
-) -> ParseResult
-    requires { Tokens kinds.now poss.now lens.now × Space errs.old exps.old }
-    ensures { Parsed (rows kinds.now poss.now lens.now) result errs.old errs.new
-        exps.old exps.new }
+// Reads the tokens, and writes what is found from the beginning of the two lists on.
+pub fn parse(tokens: &[Token], errs: &mut [u16], exps: &mut [Exp]) -> ParseResult
+    requires { Tokens tokens.now × Space errs.old exps.old }
+    ensures { Parsed tokens.now result errs.old errs.new exps.old exps.new }
 {
-    let second = next_at(kinds, 1);
-    let root = next_at(kinds, 0).note(second.sign());
+    let second = next_at(tokens, 1);
+    let root = next_at(tokens, 0).note(second.sign());
     let st = begin(root, second, errs);
-    let end = read_tokens(kinds, poss, lens, st, false, 0, errs, exps);
+    let end = read_tokens(tokens, st, None, errs, exps);
     ParseResult {
         root,
         errors: end.errors,

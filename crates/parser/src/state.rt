@@ -1,16 +1,19 @@
 // The parser's state between tokens, and what the token step wants to know of it and of the tokens ahead.
-ghost use Rattle.std.specs.Prelude.{false, ◌≡◌, ◌+◌, ◌≤◌, ◌<◌, length, get_or};
+ghost use Rattle.std.specs.Prelude.{false, ◌≡◌, ◌≤◌, ◌<◌, length};
 ghost use Rattle.std.specs.Int.Signed.{mag};
-ghost use Rattle.expression.specs.Expression.{exp_of};
-ghost use Rattle.parser.specs.Parser.{is_six, last_six};
-ghost use Rattle.parser.specs.State.{next_in, ahead_in, reach_of, Foreseen, exps_of, here_in};
+ghost use Rattle.token.specs.Token.{at};
+ghost use Rattle.parser.specs.Parser.{ahead_of, is_six, last_six, next_at};
+ghost use Rattle.parser.specs.State.{Foreseen, here_in};
 
+use expression::expression::Exp;
+use intervals::MAJOR_SIXTH;
 use lookahead::{Ahead, Next, next_of};
 use step::context::Context;
 use step::effect::Here;
-use token::TokenType;
+use token::{Token, TokenType};
 
 // `at` is the next token; `errors` and `exps` count what stands in the lent lists.
+// Counts by value and no struct over the lent lists: so the whole state can stay in registers.
 #[derive(Clone, Copy)]
 pub struct State {
     pub at: usize,
@@ -26,11 +29,10 @@ impl State {
         requires { mag self.count < 1000 }
         ensures { result ≡ self }
     {
-        let context = self.context;
         State {
             at: self.at,
             count: self.count,
-            context,
+            context: self.context,
             errors: self.errors,
             exps: self.exps,
         }
@@ -38,53 +40,35 @@ impl State {
 }
 
 // The token at i, as the one before it sees it.
-pub(crate) fn next_at(kinds: &[u8], i: usize) -> Next
-    ensures { result ≡ next_in kinds.now i }
+pub(crate) fn next_at(tokens: &[Token], i: usize) -> Next
+    ensures { result ≡ next_at tokens.now i }
 {
-    if kinds.len() <= i {
-        return Next::Other;
+    match tokens.get(i) {
+        Some(token) => next_of(TokenType::from_number(token.kind)),
+        None => Next::Other,
     }
-    next_of(TokenType::from_number(kinds[i]))
 }
 
 // The position of the token at i; 0 where there is none.
-fn pos_at(poss: &[u16], i: usize) -> u16
-    ensures { result ≡ get_or poss.now i 0 }
+fn pos_at(tokens: &[Token], i: usize) -> u16
+    ensures { result ≡ (at tokens.now i).pos }
 {
-    if poss.len() <= i {
-        return 0;
+    match tokens.get(i) {
+        Some(token) => token.pos,
+        None => 0,
     }
-    poss[i]
 }
 
-// The three tokens from i on.
-fn ahead_at(kinds: &[u8], poss: &[u16], i: usize) -> Ahead
-    requires { i ≤ 300 }
-    ensures { result ≡ ahead_in kinds.now poss.now i }
+// The first three of the tokens ahead.
+fn all_ahead(rest: &[Token]) -> Ahead
+    ensures { result ≡ ahead_of rest.now }
 {
     Ahead {
-        first: next_at(kinds, i),
-        second: next_at(kinds, i + 1),
-        third: next_at(kinds, i + 2),
-        pos: pos_at(poss, i),
-        pos2: pos_at(poss, i + 1),
-    }
-}
-
-// How many of the tokens after it the effect of such a token depends on.
-fn reach(kind: TokenType) -> u8
-    ensures { result ≡ reach_of kind }
-{
-    match kind {
-        TokenType::Sharp => 1,
-        TokenType::Flat => 1,
-        TokenType::Aug => 1,
-        TokenType::Add => 3,
-        TokenType::Omit => 1,
-        TokenType::Sus => 1,
-        TokenType::Hyphen => 1,
-        TokenType::Slash => 3,
-        _ => 0,
+        first: next_at(rest, 0),
+        second: next_at(rest, 1),
+        third: next_at(rest, 2),
+        pos: pos_at(rest, 0),
+        pos2: pos_at(rest, 1),
     }
 }
 
@@ -101,53 +85,48 @@ fn only(first: Next) -> Ahead
     }
 }
 
-// The tokens from i on, as far as a token of this type asks for them; most ask for none, and looking takes time.
-pub(crate) fn ahead_of(kind: TokenType, kinds: &[u8], poss: &[u16], i: usize) -> Ahead
-    requires { i ≤ 300 }
-    ensures { Foreseen (reach_of kind) (ahead_in kinds.now poss.now i) result }
+// The tokens ahead, as far as a token of this type asks for them; most ask for none, and looking takes time.
+pub(crate) fn ahead_of(kind: TokenType, rest: &[Token]) -> Ahead
+    ensures { Foreseen kind (ahead_of rest.now) result }
 {
-    let n = reach(kind);
-    if n == 0 {
-        return only(Next::Other);
+    match kind {
+        TokenType::Sharp
+        | TokenType::Flat
+        | TokenType::Aug
+        | TokenType::Omit
+        | TokenType::Sus
+        | TokenType::Hyphen => only(next_at(rest, 0)),
+        TokenType::Add | TokenType::Slash => all_ahead(rest),
+        _ => only(Next::Other),
     }
-    if n == 1 {
-        return only(next_at(kinds, i));
-    }
-    ahead_at(kinds, poss, i)
 }
 
-// The number of the extension 6: kind 11 and interval 11.
-fn is_six(number: u32) -> bool
-    ensures { result ≡ is_six (exp_of number) }
+fn is_six(e: Exp) -> bool
+    ensures { result ≡ is_six e }
 {
-    if number % 16 == 11 {
-        return number / 16 % 256 == 11;
-    }
-    false
+    matches!(e, Exp::Extension(MAJOR_SIXTH, _))
 }
 
-fn last_is_six(exps: &[u32], n: usize) -> bool
-    requires { n ≤ length exps.now }
-    ensures { result ≡ last_six false (exps_of n exps.now) }
+// Is the last of the expressions the extension 6?
+fn last_is_six(exps: &[Exp]) -> bool
+    ensures { result ≡ last_six false exps.now }
 {
-    if n == 0 {
-        return false;
+    match exps.last() {
+        Some(e) => is_six(*e),
+        None => false,
     }
-    is_six(exps[n - 1])
 }
 
 // What the token step wants to know of the token at st.at.
-pub(crate) fn here_at(poss: &[u16], lens: &[u16], exps: &[u32], st: State) -> Here
-    requires { (st.at < length poss.now) × (st.at < length lens.now) × (st.exps ≤ length exps.now) × (mag st.count < 1000) }
-    ensures { result ≡ here_in poss.now lens.now exps.now st }
+pub(crate) fn here_at(token: Token, exps: &[Exp], st: State) -> Here
+    requires { (st.exps ≤ length exps.now) × (mag st.count < 1000) }
+    ensures { result ≡ here_in token exps.now st }
 {
-    let at = st.at;
-    let context = st.context;
     Here {
-        pos: poss[at],
-        len: lens[at],
+        pos: token.pos,
+        len: token.len,
         count: st.count,
-        context,
-        six: last_is_six(exps, st.exps),
+        context: st.context,
+        six: last_is_six(&exps[..st.exps]),
     }
 }

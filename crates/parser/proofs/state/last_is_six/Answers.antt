@@ -1,14 +1,13 @@
 -- By whether there is an expression.
-use Rattle.parser.proofs.Six.{last_six-at, none-six}
-use mathlib.Core.Path.{◌∙◌, sym}
+use Rattle.std.proofs.Common.{sym, ap, ◌∙◌}
+use Rattle.parser.proofs.Lists.{last_six-none, last_six-at}
+use Rattle.parser.specs.Parser.{is_six}
 use Rattle.parser.proofs.state.last_is_six.Goals as goal
 
-pub returns-then-n-eq0 : goal.returns-then-n-eq0
-returns-then-n-eq0 c = sym (none-six c.args.exps.now c.if-n-eq0.true)
+pub returns-in-Some : goal.returns-in-Some
+returns-in-Some c =
+    let item = c.in-Some.ensures.item in
+    c.is_six.ensures ∙ ap is_six item.1 ∙ sym (last_six-at c.args.exps.now c.in-Some.e.now item.3.0)
 
-pub returns : goal.returns
-returns c =
-    let n = c.args.n in
-    let xs = c.args.exps.now in
-    let left = c.if-n-eq0.false in
-    c.is_six.ensures ∙ sym (last_six-at n xs left c.requires)
+pub returns-in-None : goal.returns-in-None
+returns-in-None c = sym (last_six-none c.args.exps.now c.in-None.ensures.item.3)

@@ -1,10 +1,11 @@
--- By whether there is a token.
-use Rattle.parser.proofs.Rows.{next-none}
-use mathlib.Core.Path.{sym}
+-- Where there is no token it is what a token of no type is.
+use Rattle.std.proofs.Common.{sym, ap}
+use lib.ListN.{get_or-eq_default}
+use Rattle.lookahead.specs.Next.{next_of}
+use Rattle.token.specs.Token.{token, type_of}
+use Rattle.token.specs.declared.Token.{Token}
 use Rattle.parser.proofs.state.next_at.Goals as goal
 
-pub returns-then-kinds-i : goal.returns-then-kinds-i
-returns-then-kinds-i c = sym (next-none c.args.kinds.now c.args.i c.if-kinds-i.true)
-
-pub returns : goal.returns
-returns c = rw (c.next_of.ensures, c.from_number.ensures)
+pub returns-in-None : goal.returns-in-None
+unfolding type_of
+returns-in-None c = sym (ap (λ (t : Token). next_of (type_of t.kind)) (get_or-eq_default c.args.tokens.now (token 0 0 0) c.in-None.ensures.lookup.3))
