@@ -22,7 +22,8 @@ use Rattle.lexer.specs.Words.{by_ends, is_letter, run_end, word_to, words}
 use Rattle.expression.specs.declared.parser_error.ParserError.{ParserError}
 use Rattle.parser.specs.Parser.{Parsing, itself, last_six, next_at, walk}
 use Rattle.step.specs.declared.context.Context.TheVariants as context
-use Rattle.token.specs.Token.{Token, type_of}
+use Rattle.token.specs.Token.{type_of}
+use Rattle.token.specs.declared.Token.{Token}
 use Rattle.utf8.specs.Utf8.{bits, char_of, encode, is_scalar}
 
 -- `piece c t make i spot`: the text t, if c. Its expression is `make (spot q)` where t begins at q; `parts` calls that place p i

@@ -31,7 +31,8 @@ use Rattle.lexer.specs.Words.{by_ends, is_letter, run_end, word_to, words}
 use Rattle.expression.specs.declared.parser_error.ParserError.{ParserError}
 use Rattle.parser.specs.Parser.{Parsing, itself, last_six, next_at, parse_of, root_of, walk}
 use Rattle.step.specs.declared.context.Context.TheVariants as context
-use Rattle.token.specs.Token.{Token, type_number, token, type_of}
+use Rattle.token.specs.Token.{type_number, token, type_of}
+use Rattle.token.specs.declared.Token.{Token}
 use Rattle.token.specs.declared.TokenType.TheVariants.{Eof}
 use Rattle.utf8.specs.Utf8.{bits, char_of, encode, is_scalar}
 use Rattle.house_text.specs.Spelling.{letter_text, sign_text, note_text, spell}

@@ -21,7 +21,7 @@ use Rattle.std.specs.declared.option.Option.TheVariants as optional
 use Rattle.note.specs.Note.{OptionalNote}
 use Rattle.parser.specs.Parser.{parse_of, root_of}
 use Rattle.reader.specs.Reader.{ReadOutcome, accepted, four_by, judge, parsed, validated}
-use Rattle.token.specs.Token.{Token}
+use Rattle.token.specs.declared.Token.{Token}
 use Rattle.validator.specs.Validator.{all_from, conflict_at, extension_fault, first_from, first_wrong, last_below, neighbours_at, only, or_else, others, present, priority_of, repeated_at, reported, seeing, semitone_errors, three, times_of, validation_of}
 use Rattle.positions.proofs.Pairs.{Pairs, none, more, Same, pairs_append, pairs_if, pairs_length}
 use Rattle.positions.proofs.Parses.{parse_same, root-same}

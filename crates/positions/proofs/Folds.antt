@@ -7,7 +7,8 @@ use mathlib.Core.Path.{◌≡◌, refl, ap, ap₂, subst}
 use Prim.Native.Nat.{ℕ, ◌+◌, min}
 use lib.Dec.{T, eqb}
 use Rattle.folding.specs.Folding.{concat, count, dim, dim7, fold_on, is_maj, join, maj, maj7, one, paired, pre_process, seven, taken}
-use Rattle.token.specs.Token.{Token, type_of}
+use Rattle.token.specs.Token.{type_of}
+use Rattle.token.specs.declared.Token.{Token}
 use Rattle.positions.proofs.Pairs.{Pairs, none, more, Same, is_modifier, pairs_append, pairs_if}
 
 module _ (f g : ℕ → ℕ) (least : (a b p q : ℕ) → f a ≡ g p → f b ≡ g q → f (min a b) ≡ g (min p q)) where

@@ -8,7 +8,8 @@ use Prim.Native.Nat.{ℕ, zero, suc, ◌+◌}
 use lib.Dec.{T}
 use lib.ListN.{length, drop, get_or}
 use Rattle.lookahead.specs.Next.{is_sign, next_of}
-use Rattle.token.specs.Token.{Token, type_of}
+use Rattle.token.specs.Token.{type_of}
+use Rattle.token.specs.declared.Token.{Token}
 use Rattle.token.specs.declared.TokenType.{TokenType}
 
 -- the elements of two lists are related one by one

@@ -18,7 +18,8 @@ use Rattle.step.specs.declared.context.Context.{Context}
 use Rattle.step.specs.declared.effect.Effect.{Effect}
 use Rattle.step.specs.declared.effect.Gains.{Gains}
 use Rattle.step.specs.declared.effect.OptionalError.{OptionalError}
-use Rattle.token.specs.Token.{Token, at, bracket_kind, type_of}
+use Rattle.token.specs.Token.{at, bracket_kind, type_of}
+use Rattle.token.specs.declared.Token.{Token}
 use Rattle.token.specs.declared.TokenType.{TokenType}
 use Rattle.positions.proofs.Pairs.{Pairs, none, more, Same, is_modifier, pairs_append, pairs_at, pairs_if, pairs_tail}
 use Rattle.positions.proofs.Steps.{Shape, itself as the_same, extension, add, omit, SameError, rows, SameExp, SameGains, nothing, one, two, SameOptional, fine, wrong, SameEffect, inside-same, step_same}

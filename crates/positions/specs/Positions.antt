@@ -2,7 +2,8 @@
 use Rattle.std.specs.Prelude.{cond, List, [], ◌∷◌, ℕ}
 use Rattle.intervals.specs.Interval.{elem}
 use Rattle.reader.specs.Reader.{ReadOutcome}
-use Rattle.token.specs.Token.{Token, token}
+use Rattle.token.specs.Token.{token}
+use Rattle.token.specs.declared.Token.{Token}
 
 -- a token whose position is mapped; its kind and length stay
 abbrev pub mapped : (ℕ → ℕ) → Token → Token

@@ -1,29 +1,36 @@
--- Blank texts: one step along a text, as the code asks it.
--- Assumes nothing.
-use mathlib.Core.Bool.{Bool, true, false, ◌&&◌}
-use mathlib.Core.List.{List}
-use mathlib.Core.Path.{◌≡◌, ap, ◌∙◌}
-use Prim.Native.Nat.{ℕ, suc, ◌+◌, ◌≤◌, ◌<◌}
-use native.Mathlib.Omega.{arith}
-use lib.Dec.{eqb}
-use lib.ListN.{length, drop, drop_of_length-le, get_or}
-use lib.Seq.{drop-cons}
-use borrow.Author.Tests.{eq-eqb, ne_eqb}
+-- Blank texts: each of their bytes is a space, and a text whose bytes all are is blank.
+use Rattle.std.proofs.Common.{◌≡◌, ◌↔◌, ℕ, zero, suc, ◌<◌, List, [], ◌∷◌, Bool, true, false, ◌&&◌, refl, sym, ap, ◌∙◌, arith, length, get_or, eqb}
+use borrow.Author.Tests.{eq-eqb, eqb-true}
 use Rattle.reader.specs.Reader.{is_blank}
 
-module _ (text : List ℕ) (i : ℕ) where
-  blank-next : i < length text → is_blank (drop i text) ≡ eqb (get_or text i 0) 0x20 && is_blank (drop (i + 1) text)
-  unfolding is_blank
-  blank-next h =
-      let e : suc i ≡ i + 1 = omega arith in
-      ap is_blank (drop-cons text i 0 h) ∙ ap (λ (j : ℕ). eqb (get_or text i 0) 0x20 && is_blank (drop j text)) e
+first : (a b : Bool) → (a && b) ≡ true → a ≡ true
+first true b e = refl
+first false b e = e
 
-  pub blank-ends : i < length text → (get_or text i 0 ≡ 0x20 → ⊥) → is_blank (drop i text) ≡ false
-  blank-ends h n = blank-next h ∙ ap (λ (b : Bool). b && is_blank (drop (i + 1) text)) (ne_eqb (get_or text i 0) 0x20 n)
+second : (a b : Bool) → (a && b) ≡ true → b ≡ true
+second true b e = e
+second false b e = absurd (both e)
+  where
+    both : false ≡ true → ⊥
+    both e = search (arith, e)
 
-  pub blank_on : i < length text → get_or text i 0 ≡ 0x20 → is_blank (drop i text) ≡ is_blank (drop (i + 1) text)
-  blank_on h e = blank-next h ∙ ap (λ (b : Bool). b && is_blank (drop (i + 1) text)) (eq-eqb (get_or text i 0) 0x20 e)
+pub each_space : (text : List ℕ) → is_blank text ≡ true → (k : ℕ) → k < length text → get_or text k 0 ≡ 0x20
+unfolding is_blank
+each_space [] e k h = absurd (omega arith)
+each_space (x ∷ text) e zero h = eqb-true x 0x20 (first (eqb x 0x20) (is_blank text) e)
+each_space (x ∷ text) e (suc k) h = each_space text (second (eqb x 0x20) (is_blank text) e) k (omega arith)
 
-  pub blank-last : length text ≤ i → is_blank (drop i text) ≡ true
-  unfolding is_blank
-  blank-last h = ap is_blank (drop_of_length-le text h)
+pub all_spaces : (text : List ℕ) → ((k : ℕ) → k < length text → get_or text k 0 ≡ 0x20) → is_blank text ≡ true
+unfolding is_blank
+all_spaces [] f = refl
+all_spaces (x ∷ text) f =
+    ap (λ (b : Bool). b && is_blank text) (eq-eqb x 0x20 (f 0 (omega arith))) ∙ all_spaces text (λ k h. f (suc k) (omega arith))
+
+-- what says that each byte is a space says whether the text is blank
+pub blank_by : (text : List ℕ) (b : Bool) → (b ≡ true) ↔ ((k : ℕ) → k < length text → get_or text k 0 ≡ 0x20) → b ≡ is_blank text
+blank_by text true f = sym (all_spaces text (f.0 refl))
+blank_by text false f = by (is_blank text) refl
+  where
+    by : (c : Bool) → is_blank text ≡ c → false ≡ c
+    by false e = refl
+    by true e = f.1 (each_space text e)

@@ -3,7 +3,7 @@
 use mathlib.Core.Bool.{Bool, true, false, not}
 use mathlib.Core.List.{List, [], ◌∷◌, ◌++◌}
 use mathlib.Core.Path.{◌≡◌, refl, sym, ap, subst, ◌∙◌}
-use Prim.Native.Nat.{ℕ, zero, suc, ◌+◌, ◌*◌, ◌≤◌, ◌<◌}
+use Prim.Native.Nat.{ℕ, zero, suc, ◌*◌, ◌≤◌, ◌<◌}
 use native.Mathlib.Omega.{arith}
 use lib.ListN.{length, take, drop}
 use lib.Seq.{length-take-le}
@@ -13,9 +13,13 @@ use Rattle.expression.proofs.AllNumbers.{all-length}
 use Rattle.expression.specs.ParserError.{all_numbers}
 use Rattle.expression.specs.declared.parser_error.ParserError.{ParserError}
 use Rattle.expression.specs.declared.expression.Exp.{Exp}
-use Rattle.token.specs.Token.{Token}
+use Rattle.token.specs.declared.Token.{Token}
 use Rattle.reader.specs.Reader.{Answer, ReadOutcome, Reading, count_of, judge, number_of, parsed, refused, validated}
 use Rattle.reader.specs.State.{ReadGave}
+use Rattle.std.proofs.lemmas.List.Elements.{All-cons, All-nil}
+use Rattle.expression.specs.Bounds.{Sound}
+use Rattle.evaluator.specs.State.{Sounds}
+use Rattle.parser.specs.All.{All}
 
 parted : (n : ℕ) (l : List ℕ) → l ≡ take n l ++ drop n l
 parted zero l = refl
@@ -66,6 +70,11 @@ gave_no_chord {o} {k} {a} {r} es e n m h c w =
 -- the same of an outcome that is equal
 pub gave_same : {o o' : ReadOutcome} {r : Reading} {es es' : List ℕ} → o ≡ o' → ReadGave o' r es es' → ReadGave o r es es'
 gave_same {o} {o'} {r} {es} {es'} e g = subst (λ (x : ReadOutcome). ReadGave x r es es') (sym e) g
+
+-- sound expressions, one after the other or by their place
+pub sounds-all : (l : List Exp) → All Sound l → Sounds l
+sounds-all [] a = All-nil Sound
+sounds-all (e ∷ l) a = All-cons Sound e l a.0 (sounds-all l a.1)
 
 -- the same of a root, expressions and a list that are equal
 pub as_is : {root root' : OptionalNote} {l l' : List Exp} {r : Reading} {e e' es : List ℕ} → root ≡ root' → l ≡ l' → e ≡ e' → ReadGave (validated root l) r e es → ReadGave (validated root' l') r e' es

@@ -11,7 +11,7 @@ use Rattle.expression.specs.declared.parser_error.ParserError.{ParserError}
 use Rattle.folding.specs.Folding.{pre_process}
 use Rattle.lexer.specs.Lexer.{tokens_of}
 use Rattle.parser.specs.Parser.{parse_of, root_of}
-use Rattle.token.specs.Token.{Token}
+use Rattle.token.specs.declared.Token.{Token}
 use Rattle.utf8.specs.Utf8.{well_formed}
 use Rattle.validator.specs.Validator.{validation_of}
 use Rattle.reader.specs.declared.Refusal.TheVariants.{ShortList, LongText, NotUtf8, Parse, Validation}

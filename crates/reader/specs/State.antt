@@ -3,7 +3,8 @@ use Rattle.std.specs.Prelude.{List, ◌++◌, ◌≡◌, ℕ, ◌≤◌, drop, l
 use Rattle.chord.specs.Chord.{four_of, record_of}
 use Rattle.folding.specs.Folding.{pre_process}
 use Rattle.lexer.specs.Lexer.{tokens_of}
-use Rattle.token.specs.Token.{Ranged, Room, Token}
+use Rattle.token.specs.Token.{Ranged, Room}
+use Rattle.token.specs.declared.Token.{Token}
 use Rattle.reader.specs.Reader.{ReadOutcome, Reading, count_of, number_of, read_of}
 
 pub record ReadGave (o : ReadOutcome) (r : Reading) (es es' : List ℕ) : Type 0 where

@@ -11,7 +11,8 @@ use Rattle.lexer.specs.Lexer.{head_of, emit, lex, end_of, illegal, tokens_of}
 use Rattle.lexer.specs.declared.Head.TheVariants as head
 use Rattle.lexer.specs.declared.Head.{Head}
 use Rattle.reader.specs.Reader.{tokens_in}
-use Rattle.token.specs.Token.{Token, token}
+use Rattle.token.specs.Token.{token}
+use Rattle.token.specs.declared.Token.{Token}
 
 -- a head is one token at most, or holds one
 emit-few : (h : Head) (held : List Token) (p m : ℕ) (more : ℕ → List Token → List Token)

@@ -32,7 +32,8 @@ use Rattle.step.specs.declared.effect.Effect.{Effect}
 use Rattle.step.specs.declared.effect.Here.{Here}
 use Rattle.step.specs.declared.effect.OptionalError.TheVariants as error
 use Rattle.step.specs.declared.effect.OptionalError.{OptionalError}
-use Rattle.token.specs.Token.{Token, bracket_kind, type_of}
+use Rattle.token.specs.Token.{bracket_kind, type_of}
+use Rattle.token.specs.declared.Token.{Token}
 use Rattle.token.specs.declared.Bracket.TheVariants.{Opens, Closes, Ends, Other}
 use Rattle.token.specs.declared.Bracket.{Bracket}
 use Rattle.token.specs.declared.TokenType.TheVariants as type

@@ -25,7 +25,8 @@ use Rattle.theorems.proofs.RaisedCharacters.{plain-blank, plain_other, plain-sca
 use Rattle.theorems.proofs.RaisedHeads.{Begun, a_space, a_sign, a_word, a_number, a_digit, head_begun, heads_alike, resized}
 use Rattle.theorems.proofs.RaisedRuns.{bytes, more_bytes}
 use Rattle.theorems.specs.Raised.{RaisedAnswer, RaisedTokens, back, plain, plain_char, width}
-use Rattle.token.specs.Token.{Token, token, type_of}
+use Rattle.token.specs.Token.{token, type_of}
+use Rattle.token.specs.declared.Token.{Token}
 use Rattle.reader.specs.Reader.{answer_to, is_blank, parsed, silent, tokens_in}
 use Rattle.utf8.proofs.Laws.{encode-length, run_accepted}
 use Rattle.utf8.specs.Utf8.{is_scalar, all_scalar, encode, encode_all}

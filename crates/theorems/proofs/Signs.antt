@@ -13,7 +13,8 @@ use Rattle.positions.proofs.Answers.{parsed-same}
 use Rattle.positions.proofs.Folds.{folded_same}
 use Rattle.positions.proofs.Pairs.{Pairs, none, more, Same}
 use Rattle.positions.specs.Positions.{mapped}
-use Rattle.token.specs.Token.{Token, type_of}
+use Rattle.token.specs.Token.{type_of}
+use Rattle.token.specs.declared.Token.{Token}
 use Rattle.utf8.specs.Utf8.{bits, char_at, char_of, encode, is_scalar}
 use Rattle.theorems.specs.Signs.{BeforeAsSaid, PositionsAlone, SameTokens, SignsAlone, sign_bytes}
 

@@ -6,7 +6,7 @@ use Rattle.lexer.specs.Lexer.{sign_of, tokens_of}
 use Rattle.lexer.specs.Text.{ascii}
 use Rattle.positions.specs.Positions.{mapped, moved_outcome}
 use Rattle.reader.specs.Reader.{ReadOutcome, parsed, tokens_in}
-use Rattle.token.specs.Token.{Token}
+use Rattle.token.specs.declared.Token.{Token}
 use Rattle.utf8.specs.Utf8.{char_at}
 use Rattle.utf8.specs.declared.Found.TheVariants.{Char, Bad, End}
 use Rattle.utf8.specs.declared.Found.{Found}

@@ -4,7 +4,8 @@ use mathlib.Core.List.{List, [], ◌∷◌, ◌++◌}
 use Prim.Native.Nat.{ℕ, zero, suc, ◌≤◌, ◌<◌}
 use native.Mathlib.Omega.{arith}
 use lib.ListN.{length}
-use Rattle.token.specs.Token.{Token, at, Ranged}
+use Rattle.token.specs.Token.{at, Ranged}
+use Rattle.token.specs.declared.Token.{Token}
 
 module _ (p l : ℕ) where
   pub ranged_append : (a b : List Token) → Ranged p l a → Ranged p l b → Ranged p l (a ++ b)

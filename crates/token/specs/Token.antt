@@ -5,7 +5,7 @@ use Rattle.token.specs.declared.Bracket.TheVariants.{Opens, Closes, Ends, Other}
 use Rattle.token.specs.declared.Bracket.{Bracket}
 use Rattle.token.specs.declared.TokenType.TheVariants.{Note, Sharp, Flat, Aug, Dim, Dim7, HalfDim, Extension, Add, Omit, Alt, Sus, Minor, Hyphen, Maj, Maj7, Slash, LParent, RParent, Comma, Bass, Illegal, Eof}
 use Rattle.token.specs.declared.TokenType.{TokenType}
-pub use Rattle.token.specs.declared.Token.{Token}
+use Rattle.token.specs.declared.Token.{Token}
 
 -- "A token holds numbers, no borrowed text": the number of its type, its position and its length.
 abbrev pub token : ℕ → ℕ → ℕ → Token
