@@ -13,59 +13,18 @@ use Rattle.bars.specs.Bars.{longest_line}
 use Rattle.bars.specs.State.{Line, Part}
 use Rattle.endings.proofs.Starts.{end_at_start, start-within}
 use Rattle.endings.specs.Endings.{bar_count, bar_of, nowhere, spot_in, spot_of, start_of}
-use Rattle.endings.specs.State.{Fits, line_of, spot_from, start_in}
+use Rattle.endings.specs.State.{Fits, line_of, spot_from, StartIn}
 use Rattle.endings.specs.declared.Answer.TheVariants.{TooLong, NoBar, Body, Ending}
 use Rattle.endings.specs.declared.Answer.{Answer}
 use Rattle.endings.specs.declared.Spot.{Spot}
-use Rattle.endings.specs.declared.Start.TheVariants.{At, Beyond}
-use Rattle.endings.specs.declared.Start.{Start}
+use Rattle.std.specs.declared.result.Result.TheVariants.{Ok, Err}
 
--- is a start one at a place, and its number
-abbrev is_at : Start → Bool
-is_at (At s) = true
-is_at (Beyond m) = false
+-- from its start the bar runs to its end
+spot-from : (l : List ℕ) (k : ℕ) → k < bar_count l → (a : Answer) (s : ℕ) → s ≡ start_of l k → spot_from a l s ≡ spot_in a l k
+spot-from l k h a s e = ap (spot_from a l) e ∙ ap (λ (n : ℕ). record { answer = a; from = start_of l k; to = n }) (end_at_start l k h)
 
-abbrev place_in : Start → ℕ
-place_in (At s) = s
-place_in (Beyond m) = m
-
--- ---- the start that was found in a line: the line has the bar, or too few
-
-module _ (l : List ℕ) (k : ℕ) where
-  data StartWay : Start → Type 0 where
-    has : k < bar_count l → StartWay (At (start_of l k))
-    lacks : bar_count l ≤ k → StartWay (Beyond (k - bar_count l))
-
-  start_way : StartWay (start_in l k)
-  unfolding start_in
-  start_way = by (ltb k (bar_count l)) refl
-    where
-      by : (t : Bool) → ltb k (bar_count l) ≡ t → StartWay (cond t (At (start_of l k)) (Beyond (k - bar_count l)))
-      by true e = has (ltb-true k (bar_count l) e)
-      by false e = lacks (ltb-false k (bar_count l) e)
-
-  pub found_at : (s : ℕ) → start_in l k ≡ At s → (k < bar_count l) × (s ≡ start_of l k)
-  found_at s = by start_way
-    where
-      by : {r : Start} → StartWay r → r ≡ At s → (k < bar_count l) × (s ≡ start_of l k)
-      by (has h) e = (h, sym (ap place_in e))
-      by (lacks h) e = absurd (true≢false (sym (ap is_at e)))
-
-  pub found_beyond : (m : ℕ) → start_in l k ≡ Beyond m → (bar_count l ≤ k) × (m ≡ k - bar_count l)
-  found_beyond m = by start_way
-    where
-      by : {r : Start} → StartWay r → r ≡ Beyond m → (bar_count l ≤ k) × (m ≡ k - bar_count l)
-      by (has h) e = absurd (true≢false (ap is_at e))
-      by (lacks h) e = (h, sym (ap place_in e))
-
-  pub found_within : (s : ℕ) → start_in l k ≡ At s → s ≤ length l
-  found_within s e = let f = found_at s e in subst (λ (n : ℕ). n ≤ length l) (sym f.1) (start-within l k f.0)
-
-  -- from there the bar runs to its end
-  spot-from : (a : Answer) (s : ℕ) → start_in l k ≡ At s → spot_from a l s ≡ spot_in a l k
-  spot-from a s e =
-      let f = found_at s e in
-      ap (spot_from a l) f.1 ∙ ap (λ (n : ℕ). record { answer = a; from = start_of l k; to = n }) (end_at_start l k f.0)
+pub found_within : (l : List ℕ) (k s : ℕ) → StartIn l k (Ok s) → s ≤ length l
+found_within l k s e = omega (arith, e.1, start-within l k e.0)
 
 -- ---- the five cases of a spot
 
@@ -96,22 +55,16 @@ module _ (body ending : List ℕ) (k : ℕ) where
           simp (le-ltb _ _ hb, le-ltb _ _ he, le-ltb _ _ h, le-ltb _ _ g)
 
       -- from the starts that were found
-      pub found_body : (s : ℕ) → start_in body k ≡ At s → spot_from Body body s ≡ spot_of body ending k
-      found_body s e = spot-from body k Body s e ∙ sym (spot-in_body (found_at body k s e).0)
+      pub found_body : (s : ℕ) → StartIn body k (Ok s) → spot_from Body body s ≡ spot_of body ending k
+      found_body s e = spot-from body k e.0 Body s e.1 ∙ sym (spot-in_body e.0)
 
-      pub found_ending : (m s : ℕ) → start_in body k ≡ Beyond m → start_in ending m ≡ At s → spot_from Ending ending s ≡ spot_of body ending k
+      pub found_ending : (m s : ℕ) → StartIn body k (Err m) → StartIn ending m (Ok s) → spot_from Ending ending s ≡ spot_of body ending k
       found_ending m s e f =
-          let b = found_beyond body k m e in
-          let h = (found_at ending m s f).0 in
-          spot-from ending m Ending s f
-          ∙ ap (spot_in Ending ending) b.1
-          ∙ sym (spot-in_ending b.0 (omega (arith, b.0, b.1, h)))
+          let n : m ≡ k - bar_count body = omega (arith, e) in
+          spot-from ending m f.0 Ending s f.1 ∙ ap (spot_in Ending ending) n ∙ sym (spot-in_ending (omega (arith, e)) (omega (arith, e, f.0)))
 
-      pub found_none : (m n : ℕ) → start_in body k ≡ Beyond m → start_in ending m ≡ Beyond n → nowhere NoBar ≡ spot_of body ending k
-      found_none m n e f =
-          let b = found_beyond body k m e in
-          let h = (found_beyond ending m n f).0 in
-          sym (spot-none (omega (arith, b.0, b.1, h)))
+      pub found_none : (m n : ℕ) → StartIn body k (Err m) → StartIn ending m (Err n) → nowhere NoBar ≡ spot_of body ending k
+      found_none m n e f = sym (spot-none (omega (arith, e, f)))
 
 -- ---- and back, the way to a spot: a line is over its limit, the bar lies in the body or in the ending, or there is none
 

@@ -14,8 +14,6 @@ use Rattle.bars.proofs.Laws.{bar-take}
 use Rattle.bars.proofs.Splits.{length-onto, some-bar}
 use Rattle.bars.specs.Bars.{stroke, onto, bars_of, bar, bar_at, bar_end}
 use Rattle.endings.specs.Endings.{spans, bar_count, bar_of, start_of}
-use Rattle.endings.specs.State.{start_in}
-use Rattle.endings.specs.declared.Start.TheVariants.{At, Beyond}
 
 -- ---- a byte in front of the first bar
 
@@ -99,32 +97,19 @@ module _ (line : List ℕ) (number i left : ℕ) (some : 0 < left) (inside : i <
         starts = omega (arith, p.starts, starts);
       }
 
--- the start of a bar that the line has, and of one that it has not
-module _ (l : List ℕ) (k : ℕ) where
-  start_has : k < bar_count l → start_in l k ≡ At (start_of l k)
-  unfolding start_in
-  start_has h = ap (λ (t : Bool). cond t (At (start_of l k)) (Beyond (k - bar_count l))) (lt-ltb k (bar_count l) h)
-
-  start_lacks : bar_count l ≤ k → start_in l k ≡ Beyond (k - bar_count l)
-  unfolding start_in
-  start_lacks h = ap (λ (t : Bool). cond t (At (start_of l k)) (Beyond (k - bar_count l))) (le-ltb k (bar_count l) h)
-
 -- no bar is left to be passed
-pub passed_to : (line : List ℕ) (number i left : ℕ) → left ≡ 0 → Passing line number i left → At i ≡ start_in line number
+pub passed_to : (line : List ℕ) (number i left : ℕ) → left ≡ 0 → Passing line number i left → (number < bar_count line) × (i ≡ start_of line number)
 unfolding spans
 passed_to line number i left z p =
     let s : start_of (drop i line) left ≡ 0 = ap (start_of (drop i line)) z in
-    let e : i ≡ start_of line number = omega (arith, p.starts, s) in
-    ap At e ∙ sym (start_has line number (omega (arith, p.counts, z, some-bar (drop i line))))
+    (omega (arith, p.counts, z, some-bar (drop i line)), omega (arith, p.starts, s))
 
 -- the line ends, and with it the last bar
-pub passed_all : (line : List ℕ) (number i left : ℕ) → 0 < left → length line ≤ i → Passing line number i left
-    → Beyond (left - 1) ≡ start_in line number
+pub passed_all : (line : List ℕ) (number i left : ℕ) → 0 < left → length line ≤ i → Passing line number i left → bar_count line + (left - 1) ≡ number
 unfolding bars_of
 passed_all line number i left some past p =
     let n : bar_count (drop i line) ≡ 1 = ap bar_count (drop_of_length-le line past) in
-    let e : left - 1 ≡ number - bar_count line = omega (arith, p.counts, n, some) in
-    ap Beyond e ∙ sym (start_lacks line number (omega (arith, p.counts, n, some)))
+    omega (arith, p.counts, n, some)
 
 -- ---- where a bar starts, that bar stands
 

@@ -1,5 +1,5 @@
 -- What the code gave: the bar of a number as a part of whichever lent line has it.
-use Rattle.std.specs.Prelude.{cond, List, ◌≡◌, ℕ, ◌-◌, ◌≤◌, ltb, length}
+use Rattle.std.specs.Prelude.{List, ◌≡◌, ℕ, ◌+◌, ◌≤◌, ◌<◌, length, Result, MatchResult}
 use Rattle.bars.specs.Bars.{bar_end}
 use Rattle.bars.specs.State.{Line, Part}
 use Rattle.endings.specs.Endings.{bar_count, spot_of, start_of}
@@ -7,8 +7,6 @@ use Rattle.endings.specs.declared.Answer.TheVariants.{TooLong, NoBar, Body, Endi
 use Rattle.endings.specs.declared.Answer.{Answer}
 use Rattle.endings.specs.declared.NumberedBar.{NumberedBar}
 use Rattle.endings.specs.declared.Spot.{Spot}
-use Rattle.endings.specs.declared.Start.TheVariants.{At, Beyond}
-use Rattle.endings.specs.declared.Start.{Start}
 
 -- "whichever lent line has it": the ending or the body; without a bar the body
 abbrev pub line_of : {X : Type 0} → Answer → X → X → X
@@ -35,9 +33,9 @@ pub record Fits (s : Spot) (body ending : List ℕ) : Type 0 where
   pub ordered : s.from ≤ s.to
   pub within : s.to ≤ length (line_of s.answer body ending)
 
--- where bar k of a line starts, or its number counted on behind the line's bars
-unfoldable pub start_in : List ℕ → ℕ → Start
-start_in line k = cond (ltb k (bar_count line)) (At (start_of line k)) (Beyond (k - bar_count line))
+-- r is where bar k of a line starts, or its number counted on behind the line's bars
+abbrev pub StartIn : List ℕ → ℕ → Result ℕ ℕ → Type 0
+StartIn line k r = MatchResult r (λ p. (k < bar_count line) × (p ≡ start_of line k)) (λ n. bar_count line + n ≡ k)
 
 -- the spot of the bar that starts at p
 abbrev pub spot_from : Answer → List ℕ → ℕ → Spot

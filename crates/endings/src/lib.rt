@@ -5,7 +5,7 @@ ghost use Rattle.std.specs.Prelude.{◌≡◌, ◌≤◌, length};
 ghost use Rattle.bars.specs.Bars.{longest_line};
 ghost use Rattle.bars.specs.State.{Part};
 ghost use Rattle.endings.specs.Endings.{nowhere, spot_of};
-ghost use Rattle.endings.specs.State.{BarAt, Fits, NumberedBy, line_of, spot_from, start_in};
+ghost use Rattle.endings.specs.State.{BarAt, Fits, NumberedBy, line_of, spot_from, StartIn};
 
 use bars::{LONGEST_LINE, STROKE};
 
@@ -19,7 +19,8 @@ pub enum Answer {
 }
 
 // The answer to a bar number, and where the bar lies in the line that has it, from its first byte to the one behind its last. Without a
-// bar that is 0 to 0.
+// bar that is 0 to 0: no Result, since the bar of every answer is the part of a line at its spot (`BarAt`), and the theorems on the bars in
+// order (`SpotsInOrder`, `BarsInOrder`) speak of every answer's.
 #[derive(Clone, Copy)]
 pub struct Spot {
     pub answer: Answer,
@@ -34,41 +35,37 @@ pub struct NumberedBar<'a> {
     pub bar: &'a [u8],
 }
 
-// Where a bar of a line starts; or, where the line has too few, its number counted from the bar behind the line's last.
-#[derive(Clone, Copy)]
-enum Start {
-    At(usize),
-    Beyond(usize),
-}
-
-// Where the bar of a number starts in a line. The bytes in front of it are looked at once, and none behind its start.
-fn start_of(line: &[u8], number: usize) -> Start
-    ensures { result ≡ start_in line.now number }
+// Where the bar of a number starts in a line; or, where the line has too few, its number counted from the bar behind the line's last. The
+// bytes in front of it are looked at once, and none behind its start.
+fn start_of(line: &[u8], number: usize) -> Result<usize, usize>
+    ensures { StartIn line.now number result }
 {
-    let mut i = 0;
     let mut left = number;
-    while 0 < left {
-        if line.len() <= i {
-            return Start::Beyond(left - 1);
+    for (i, b) in line.iter().enumerate() {
+        if left == 0 {
+            return Ok(i);
         }
-        if line[i] == STROKE {
+        if *b == STROKE {
             left -= 1;
         }
-        i += 1;
     }
-    Start::At(i)
+    if left == 0 {
+        Ok(line.len())
+    } else {
+        Err(left - 1)
+    }
 }
 
 // The spot of the bar that starts at a place of a line. Its bytes are looked at once.
+#[tactic(auto, using(bars::proofs::Laws::place_here))]
 fn spot_in(line: &[u8], from: usize, answer: Answer) -> Spot
     requires { (length line.now ≤ longest_line) × (from ≤ length line.now) }
     ensures { result ≡ spot_from answer line.now from }
 {
-    let place = bars::place_at(line, from);
     Spot {
         answer,
         from,
-        to: place.to,
+        to: bars::place_at(line, from).to,
     }
 }
 
@@ -84,20 +81,18 @@ fn no_spot(answer: Answer) -> Spot
 }
 
 // Where the bar of any number lies in any two lines.
+#[tactic(auto, unfolding(crate::specs::Endings::spot_of))]
 pub fn spot_of<'a>(body: &'a [u8], ending: &'a [u8], number: usize) -> Spot
     ensures { result ≡ spot_of body.now ending.now number }
 {
-    if LONGEST_LINE < body.len() {
-        return no_spot(Answer::TooLong);
-    }
-    if LONGEST_LINE < ending.len() {
+    if LONGEST_LINE < body.len() || LONGEST_LINE < ending.len() {
         return no_spot(Answer::TooLong);
     }
     match start_of(body, number) {
-        Start::At(from) => spot_in(body, from, Answer::Body),
-        Start::Beyond(left) => match start_of(ending, left) {
-            Start::At(from) => spot_in(ending, from, Answer::Ending),
-            Start::Beyond(_) => no_spot(Answer::NoBar),
+        Ok(from) => spot_in(body, from, Answer::Body),
+        Err(left) => match start_of(ending, left) {
+            Ok(from) => spot_in(ending, from, Answer::Ending),
+            Err(_) => no_spot(Answer::NoBar),
         },
     }
 }
@@ -107,14 +102,9 @@ fn part_of<'a>(body: &'a [u8], ending: &'a [u8], spot: Spot) -> &'a [u8]
     requires { Fits spot body.now ending.now }
     ensures { Part (line_of spot.answer body.entry ending.entry) spot.from spot.to result }
 {
-    let answer = spot.answer;
-    let from = spot.from;
-    let to = spot.to;
-    match answer {
-        Answer::TooLong => bars::part(body, from, to),
-        Answer::NoBar => bars::part(body, from, to),
-        Answer::Body => bars::part(body, from, to),
-        Answer::Ending => bars::part(ending, from, to),
+    match spot.answer {
+        Answer::Ending => bars::part(ending, spot.from, spot.to),
+        Answer::Body | Answer::NoBar | Answer::TooLong => bars::part(body, spot.from, spot.to),
     }
 }
 
@@ -123,8 +113,7 @@ fn part_of<'a>(body: &'a [u8], ending: &'a [u8], spot: Spot) -> &'a [u8]
 pub fn bar_of<'a>(body: &'a [u8], ending: &'a [u8], number: usize) -> &'a [u8]
     ensures { BarAt body.entry ending.entry number result }
 {
-    let spot = spot_of(body, ending, number);
-    part_of(body, ending, spot)
+    bar_by_number(body, ending, number).bar
 }
 
 // The answer to any number, and the bar beside it.
@@ -132,6 +121,8 @@ pub fn bar_by_number<'a>(body: &'a [u8], ending: &'a [u8], number: usize) -> Num
     ensures { NumberedBy body.entry ending.entry number result }
 {
     let spot = spot_of(body, ending, number);
-    let bar = part_of(body, ending, spot);
-    NumberedBar { spot, bar }
+    NumberedBar {
+        spot,
+        bar: part_of(body, ending, spot),
+    }
 }

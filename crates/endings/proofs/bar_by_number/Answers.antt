@@ -6,8 +6,8 @@ use Rattle.endings.specs.State.{Fits}
 use Rattle.endings.proofs.Spots.{spot_fits}
 use Rattle.endings.proofs.bar_by_number.Goals as goal
 
-pub part_of-bar-requires : goal.part_of-bar-requires
-part_of-bar-requires c =
+pub part_of-requires : goal.part_of-requires
+part_of-requires c =
     let b = c.args.body.now in
     let e = c.args.ending.now in
     subst (λ (x : Spot). Fits x b e) (sym c.spot_of-spot.ensures) (spot_fits b e c.args.number)

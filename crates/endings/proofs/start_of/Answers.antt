@@ -5,30 +5,26 @@ use Prim.Native.Nat.{◌+◌}
 use native.Mathlib.Omega.{arith}
 use Rattle.endings.proofs.Starts.{Passing, passing_first, passing_other, passing_stroke, passed_all, passed_to}
 use Rattle.endings.proofs.start_of.Goals as goal
-use Rattle.endings.proofs.start_of.Goals.{then-line-i-eq-STROKE, else-line-i-eq-STROKE}
+use Rattle.endings.proofs.start_of.Goals.{then-b-eq-STROKE, else-b-eq-STROKE}
 
-pub loop-left-init : goal.loop-left-init
-loop-left-init c = passing_first c.args.line.now c.args.number
+pub loop-i-init : goal.loop-i-init
+loop-i-init c = passing_first _ _
 
-pub returns-then-line-i : goal.returns-then-line-i
-returns-then-line-i c =
-    let a = c.args in
-    passed_all a.line.now a.number c.loop-left.i c.loop-left.left c.loop-left-test.true c.if-line-i.true c.loop-left.invariant
+pub returns-then-left-eq0 : goal.returns-then-left-eq0
+returns-then-left-eq0 c = passed_to _ _ _ _ c.if-left-eq0.true c.loop-i.invariant
 
-pub loop-left-preserved : goal.loop-left-preserved
-loop-left-preserved c =
-    let l = c.args.line.now in
-    let n = c.args.number in
-    let i = c.loop-left.i in
-    let left = c.loop-left.left in
-    let inside = c.if-line-i.false in
-    let some = c.loop-left-test.true in
-    elim c.if-line-i-eq-STROKE.branch [
-      | then-line-i-eq-STROKE w ↦ subst (Passing l n (i + 1)) (sym w.left-is) (passing_stroke l n i left some inside c.loop-left.invariant w.if-line-i-eq-STROKE.true)
-      | else-line-i-eq-STROKE w ↦ subst (Passing l n (i + 1)) (sym w.left-is) (passing_other l n i left some inside c.loop-left.invariant w.if-line-i-eq-STROKE.false)
+pub loop-i-preserved : goal.loop-i-preserved
+loop-i-preserved c =
+    let i = c.loop-i.i in
+    elim c.if-b-eq-STROKE.branch [
+      | then-b-eq-STROKE w ↦ subst (Passing _ _ (i + 1)) (sym w.left-is) (passing_stroke _ _ i _ (omega arith) c.loop-i-test.true c.loop-i.invariant w.if-b-eq-STROKE.true)
+      | else-b-eq-STROKE w ↦ subst (Passing _ _ (i + 1)) (sym w.left-is) (passing_other _ _ i _ (omega arith) c.loop-i-test.true c.loop-i.invariant w.if-b-eq-STROKE.false)
     ]
 
-pub returns : goal.returns
-returns c =
-    let a = c.args in
-    passed_to a.line.now a.number c.loop-left.i c.loop-left.left (omega arith) c.loop-left.invariant
+pub returns-then-left-eq0-2 : goal.returns-then-left-eq0-2
+returns-then-left-eq0-2 c =
+    let p = passed_to _ _ _ _ c.if-left-eq0-2.true c.loop-i.invariant in
+    (p.0, omega (arith, p.1, c.loop-i.invariant.within))
+
+pub returns-else-left-eq0-2 : goal.returns-else-left-eq0-2
+returns-else-left-eq0-2 c = passed_all _ _ _ _ (omega arith) (omega arith) c.loop-i.invariant
