@@ -64,6 +64,13 @@ pub fn st(interval: u8) -> u8
     SEMITONES[interval as usize]
 }
 
+// The semitones of an interval; 0 of a number that is none.
+pub fn semitones_or_zero(interval: u8) -> u8
+    ensures { (result ≡ semitones interval) × (result < 23) }
+{
+    if interval < 23 { st(interval) } else { 0 }
+}
+
 // Which of the 23 intervals are members: the binary digits of a number, the lowest first. A digit from 23 on is a member outside the table.
 #[derive(Clone, Copy, PartialEq, Eq)]
 pub struct IntervalSet {

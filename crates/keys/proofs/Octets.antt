@@ -2,13 +2,14 @@
 -- Assumes nothing.
 use mathlib.Core.Bool.{Bool, true, false, cond, ◌&&◌}
 use mathlib.Core.List.{List}
-use mathlib.Core.Path.{◌≡◌, refl, sym, ap, ap₂, ◌∙◌}
+use mathlib.Core.Path.{◌≡◌, refl, sym, ap, ap₂, subst, ◌∙◌}
 use Prim.Native.Nat.{ℕ, zero, suc, ◌+◌, ◌-◌, ◌*◌, ◌/◌, ◌%◌, ◌^◌, ◌<◌, ◌≤◌}
-use native.Mathlib.Nat.{lt_of_lt_of_le}
+use native.Mathlib.Nat.{div-one, mul-le-mul_right, pow-suc}
 use native.Mathlib.Omega.{arith}
 use lib.Dec.{eqb, ltb}
 use lib.ListN.{get_or, length}
-use lib.Pow.{high, low, pow-add, pow_mono, shr-shr}
+use Rattle.std.specs.Int.{byte_at, byte_worth, bytes_low_first, sum_through, to_le_bytes, w64}
+use lib.Pow.{high, low, pow-add, shr-shr}
 use borrow.Author.Tests.{ltb-true, ltb-false}
 use Rattle.intervals.proofs.Bits.{bit-low}
 use Rattle.intervals.proofs.Store.{same_number}
@@ -24,52 +25,65 @@ bit_shift : (n k j : ℕ) → bit (n / 2 ^ k) j ≡ bit n (k + j)
 unfolding bit
 bit_shift n k j = ap (λ (x : ℕ). eqb (x % 2) 1) (shr-shr n k j)
 
--- a byte below a number
-module _ (w b : ℕ) (h : b < 2 ^ 8) (j : ℕ) where
-  joined-low : j < 8 → bit (w * 2 ^ 8 + b) j ≡ bit b j
-  joined-low l = sym (bit-low (w * 2 ^ 8 + b) 8 j l) ∙ ap (λ (x : ℕ). bit x j) (low w 8 h)
+-- m digits below a number
+module _ (w b m : ℕ) (h : b < 2 ^ m) (j : ℕ) where
+  joined-low : j < m → bit (w * 2 ^ m + b) j ≡ bit b j
+  joined-low l = sym (bit-low (w * 2 ^ m + b) m j l) ∙ ap (λ (x : ℕ). bit x j) (low w m h)
 
-  joined-high : bit (w * 2 ^ 8 + b) (8 + j) ≡ bit w j
-  joined-high = sym (bit_shift (w * 2 ^ 8 + b) 8 j) ∙ ap (λ (x : ℕ). bit x j) (high w 8 h)
+  joined-high : bit (w * 2 ^ m + b) (m + j) ≡ bit w j
+  joined-high = sym (bit_shift (w * 2 ^ m + b) m j) ∙ ap (λ (x : ℕ). bit x j) (high w m h)
 
--- w is the number of the n bytes at a place, the lowest first
-pub record Word (bs : List ℕ) (at n w : ℕ) : Type 0 where
-  pub small : w < 2 ^ (8 * n)
-  pub bits : (j : ℕ) → j < 8 * n → bit w j ≡ bit (get_or bs (at + j / 8) 0) (j % 8)
+-- a power of 256 as one of 2
+power_as : (i : ℕ) → 256 ^ i ≡ 2 ^ (8 * i)
+power_as zero = refl
+power_as (suc i) =
+    let e : 8 * suc i ≡ 8 * i + 8 = omega arith in
+    pow-suc 256 i ∙ ap (λ (x : ℕ). x * 256) (power_as i) ∙ sym (pow-add 2 (8 * i) 8) ∙ ap (λ (x : ℕ). 2 ^ x) (sym e)
 
-pub no_word : (bs : List ℕ) (at : ℕ) → Word bs at 0 0
-no_word bs at = record { small = omega arith; bits = λ j h. absurd (omega arith) }
+worth_as : (i b : ℕ) → byte_worth i b ≡ b * 2 ^ (8 * i)
+worth_as zero b = let e : b ≡ b * 1 = omega arith in e
+worth_as (suc i) b = ap (λ (x : ℕ). b * x) (power_as (suc i))
 
--- one byte more, the one before them
-module _ (bs : List ℕ) (at n w : ℕ) (p : Word bs at n w) where
-  pub word_fits : n < 8 → w < 2 ^ 56
-  word_fits l = lt_of_lt_of_le p.small (pow_mono (let e : 8 * n ≤ 56 = omega arith in e))
+-- the number of the first bytes of a list, the lowest first
+module _ (bs : List ℕ) (small : (i : ℕ) → get_or bs i 0 < 256) where
+  abbrev number : ℕ → ℕ
+  number k = sum_through (λ i. byte_worth i (get_or bs i 0)) k
 
-  module _ (b : ℕ) (a : 0 < at) (h : b < 256) (g : b ≡ get_or bs (at - 1) 0) where
-    here : ℕ → Type 0
-    here j = bit (w * 256 + b) j ≡ bit (get_or bs (at - 1 + j / 8) 0) (j % 8)
+  number-next : (k : ℕ) → number (suc k) ≡ get_or bs (suc k) 0 * 2 ^ (8 * suc k) + number k
+  number-next k = let e = worth_as (suc k) (get_or bs (suc k) 0) in omega (arith, e)
 
-    more-bits : (j : ℕ) → j < 8 * suc n → (t : Bool) → ltb j 8 ≡ t → here j
-    unfolding here
-    more-bits j l true q =
-        let k : j < 8 = ltb-true j 8 q in
-        let d : at - 1 ≡ at - 1 + j / 8 = omega arith in
-        let m : j ≡ j % 8 = omega arith in
-        joined-low w b h j k ∙ ap (λ (x : ℕ). bit x j) g ∙ ap₂ (λ (x y : ℕ). bit (get_or bs x 0) y) d m
-    more-bits j l false q =
-        let k : 8 ≤ j = ltb-false j 8 q in
-        let i = j - 8 in
-        let e : j ≡ 8 + i = omega arith in
-        let d : at + i / 8 ≡ at - 1 + j / 8 = omega arith in
-        let m : i % 8 ≡ j % 8 = omega arith in
-        ap (bit (w * 256 + b)) e ∙ joined-high w b h i ∙ p.bits i (omega arith) ∙ ap₂ (λ (x y : ℕ). bit (get_or bs x 0) y) d m
+  number-small : (k : ℕ) → number k < 2 ^ (8 * suc k)
+  number-small zero = small 0
+  number-small (suc k) =
+      let e : 8 * suc (suc k) ≡ 8 * suc k + 8 = omega arith in
+      let f : 2 ^ (8 * suc (suc k)) ≡ 2 ^ (8 * suc k) * 256 = ap (λ (x : ℕ). 2 ^ x) e ∙ pow-add 2 (8 * suc k) 8 in
+      let n = number-next k in
+      let s = mul-le-mul_right (2 ^ (8 * suc k)) (let l : get_or bs (suc k) 0 ≤ 255 = omega (arith, small (suc k)) in l) in
+      let r = number-small k in
+      omega arith
 
-    pub word_more : Word bs (at - 1) (suc n) (w * 256 + b)
-    unfolding here
-    word_more =
-        let e : 8 * suc n ≡ 8 * n + 8 = omega arith in
-        let f : 2 ^ (8 * suc n) ≡ 2 ^ (8 * n) * 256 = ap (λ (x : ℕ). 2 ^ x) e ∙ pow-add 2 (8 * n) 8 in
-        record { small = omega (arith, f, p.small); bits = λ j l. more-bits j l (ltb j 8) refl }
+  pub number-bits : (k j : ℕ) → j < 8 * suc k → bit (number k) j ≡ bit (get_or bs (j / 8) 0) (j % 8)
+  number-bits zero j h =
+      let d : 0 ≡ j / 8 = omega arith in
+      let m : j ≡ j % 8 = omega arith in
+      ap₂ (λ (x y : ℕ). bit (get_or bs x 0) y) d m
+  number-bits (suc k) j h = by (ltb j (8 * suc k)) refl (number-bits k j)
+    where
+      by : (t : Bool) → ltb j (8 * suc k) ≡ t → (j < 8 * suc k → bit (number k) j ≡ bit (get_or bs (j / 8) 0) (j % 8))
+          → bit (number (suc k)) j ≡ bit (get_or bs (j / 8) 0) (j % 8)
+      by true e f =
+          let l : j < 8 * suc k = ltb-true j (8 * suc k) e in
+          ap (λ (x : ℕ). bit x j) (number-next k) ∙ joined-low (get_or bs (suc k) 0) (number k) (8 * suc k) (number-small k) j l ∙ f l
+      by false e f =
+          let l : 8 * suc k ≤ j = ltb-false j (8 * suc k) e in
+          let i = j - 8 * suc k in
+          let a : j ≡ 8 * suc k + i = omega arith in
+          let d : suc k ≡ j / 8 = omega arith in
+          let m : i ≡ j % 8 = omega arith in
+          ap (λ (x : ℕ). bit x j) (number-next k)
+          ∙ ap (bit (get_or bs (suc k) 0 * 2 ^ (8 * suc k) + number k)) a
+          ∙ joined-high (get_or bs (suc k) 0) (number k) (8 * suc k) (number-small k) i
+          ∙ ap₂ (λ (x y : ℕ). bit (get_or bs x 0) y) d m
 
 -- the two numbers of 16 bytes have the keys that these hold
 pub keys_told : (bs : List ℕ) (s : Keys) → ((j : ℕ) → j < 64 → bit s.low j ≡ bit (get_or bs (0 + j / 8) 0) (j % 8))
@@ -91,8 +105,27 @@ keys_told bs s f g k = by (ltb k 128) (ltb k 64) refl refl
         g (k - 64) (omega arith) ∙ ap₂ (λ (x y : ℕ). bit (get_or bs x 0) y) d m
 
 -- the i-th byte of a number
-pub byte_at : (n i j : ℕ) → j < 8 → bit (n / 2 ^ (8 * i) % 256) j ≡ bit n (8 * i + j)
-byte_at n i j h = bit-low (n / 2 ^ (8 * i)) 8 j h ∙ bit_shift n (8 * i) j
+byte_as : (i n : ℕ) → byte_at i n ≡ n / 2 ^ (8 * i) % 256
+byte_as zero n = ap (λ (x : ℕ). x % 256) (sym (div-one n))
+byte_as (suc i) n = ap (λ (x : ℕ). n / x % 256) (power_as (suc i))
+
+byte_of_number : (k i j n : ℕ) → j < k → get_or (bytes_low_first i k n) j 0 ≡ byte_at (i + j) n
+byte_of_number zero i j n h = absurd (omega arith)
+byte_of_number (suc k) i zero n h = let e : i ≡ i + 0 = omega arith in ap (λ (x : ℕ). byte_at x n) e
+byte_of_number (suc k) i (suc j) n h =
+    let e : suc i + j ≡ i + suc j = omega arith in
+    byte_of_number k (suc i) j n (omega arith) ∙ ap (λ (x : ℕ). byte_at x n) e
+
+-- the i-th of a number's eight bytes: below 256, with the digits from there on
+pub record ByteAt (n i b : ℕ) : Type 0 where
+  pub small : b < 256
+  pub bits : (j : ℕ) → j < 8 → bit b j ≡ bit n (8 * i + j)
+
+pub number_byte : (n i : ℕ) → i < 8 → ByteAt n i (get_or (to_le_bytes w64 n) i 0)
+number_byte n i h =
+    let e : get_or (to_le_bytes w64 n) i 0 ≡ n / 2 ^ (8 * i) % 256 = byte_of_number 8 0 i n h ∙ ap (λ (x : ℕ). byte_at x n) (let z : 0 + i ≡ i = omega arith in z) ∙ byte_as i n in
+    subst (ByteAt n i) (sym e)
+    (record { small = omega arith; bits = λ j l. bit-low (n / 2 ^ (8 * i)) 8 j l ∙ bit_shift n (8 * i) j })
 
 -- a byte whose digits are a set's is the set's
 byte_told : (s : Set) (i b : ℕ) → b < 256 → ((j : ℕ) → j < 8 → bit b j ≡ s (8 * i + j)) → b ≡ byte_of s i

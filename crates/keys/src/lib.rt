@@ -20,7 +20,7 @@ pub struct Keys {
 fn count_digits(bits: u64) -> usize
     ensures { ((k : ℕ) → result ≡ length (places 64 k bits)) × (result ≤ 64) }
 {
-    u64::count_ones(bits) as usize
+    bits.count_ones() as usize
 }
 
 impl Keys {
@@ -35,17 +35,16 @@ impl Keys {
         requires { key < 128 }
         ensures { members result ≡ insert (members self) key }
     {
-        let low = self.low;
-        let high = self.high;
         if key < 64 {
-            return Keys {
-                low: low | (1 << key),
-                high,
-            };
-        }
-        Keys {
-            low,
-            high: high | (1 << (key - 64)),
+            Keys {
+                low: self.low | (1 << key),
+                ..self
+            }
+        } else {
+            Keys {
+                high: self.high | (1 << (key - 64)),
+                ..self
+            }
         }
     }
 
@@ -53,11 +52,9 @@ impl Keys {
     pub fn without(self, other: Keys) -> Keys
         ensures { members result ≡ minus (members self) (members other) }
     {
-        let low = self.low;
-        let high = self.high;
         Keys {
-            low: low ^ (low & other.low),
-            high: high ^ (high & other.high),
+            low: self.low ^ (self.low & other.low),
+            high: self.high ^ (self.high & other.high),
         }
     }
 

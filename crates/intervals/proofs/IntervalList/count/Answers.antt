@@ -1,5 +1,5 @@
 -- The length of what is taken of 23 numbers.
-use Rattle.std.proofs.Common.{◌≡◌, arith, length, length-take, ◌∙◌}
+use Rattle.std.proofs.Common.{◌≡◌, arith, length, length-take}
 use Rattle.intervals.specs.Stored.{listed}
 use Rattle.intervals.proofs.IntervalList.count.Goals as goal
 

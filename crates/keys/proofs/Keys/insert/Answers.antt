@@ -11,8 +11,8 @@ returns-then-key-lt64 c =
     let a = c.args in
     λ x k. insert-low a.self.low a.self.high a.key k c.if-key-lt64.true x
 
-pub returns : goal.returns
+pub returns-else-key-lt64 : goal.returns-else-key-lt64
 unfolding members Interval.insert
-returns c =
+returns-else-key-lt64 c =
     let a = c.args in
     λ x k. insert-high a.self.low a.self.high a.key k c.if-key-lt64.false c.requires x

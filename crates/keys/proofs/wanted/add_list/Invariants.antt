@@ -1,14 +1,10 @@
--- The invariant: the keys of the numbers passed are wanted.
+-- The invariant: the keys are those of the numbers passed.
 -- Assumes nothing.
-use Prim.Native.Nat.{◌-◌, ◌≤◌}
 use lib.ListN.{take}
 use Rattle.intervals.specs.Stored.{listed}
 use Rattle.keys.specs.Keys.{display_keys}
-use Rattle.keys.specs.Stored.{Wants}
+use Rattle.keys.specs.Stored.{Holds}
 use Rattle.keys.proofs.wanted.add_list.Given as goal
 
-abbrev pub invariant-loop-i : goal.invariant-loop-i
-invariant-loop-i l = (l.i ≤ l.n) × Wants l.w (display_keys l.from (take l.i (listed l.list)))
-
-abbrev pub decreases-loop-i : goal.decreases-loop-i
-decreases-loop-i l = l.n - l.i
+abbrev pub invariant-loop-interval : goal.invariant-loop-interval
+invariant-loop-interval l = Holds l.keys (display_keys l.from (take l.interval-index (listed l.fn.list)))
