@@ -8,8 +8,8 @@ ghost use Rattle.validator.specs.Validator.{add_targets, omit_targets, wrong_of,
 use expression::expression::Exp;
 use expression::parser_error::{Errors, ParserError};
 use intervals::{
-    ELEVENTH, FLAT_NINTH, FLAT_THIRTEENTH, MAJOR_SECOND, MAJOR_SEVENTH, MAJOR_SIXTH, MAJOR_THIRD, MINOR_SIXTH, NINTH, PERFECT_FIFTH,
-    PERFECT_FOURTH, SHARP_ELEVENTH, SHARP_NINTH, THIRTEENTH,
+    ELEVENTH, FLAT_NINTH, FLAT_THIRTEENTH, MAJOR_SECOND, MAJOR_SEVENTH, MAJOR_SIXTH, MAJOR_THIRD,
+    MINOR_SIXTH, NINTH, PERFECT_FIFTH, PERFECT_FOURTH, SHARP_ELEVENTH, SHARP_NINTH, THIRTEENTH,
 };
 
 // Is the interval one that Add may name?
@@ -18,7 +18,13 @@ fn is_add_target(interval: u8) -> bool
 {
     matches!(
         interval,
-        MAJOR_SECOND | MAJOR_THIRD | PERFECT_FOURTH | MINOR_SIXTH | MAJOR_SIXTH | MAJOR_SEVENTH | FLAT_NINTH..=THIRTEENTH
+        MAJOR_SECOND
+            | MAJOR_THIRD
+            | PERFECT_FOURTH
+            | MINOR_SIXTH
+            | MAJOR_SIXTH
+            | MAJOR_SEVENTH
+            | FLAT_NINTH..=THIRTEENTH
     )
 }
 
@@ -34,7 +40,9 @@ fn wrong_of(e: Exp) -> Option<ParserError>
 {
     match e {
         Exp::Add(x, pos) => (!is_add_target(x)).then_some(ParserError::WrongExpressionTarget(pos)),
-        Exp::Omit(x, pos) => (!is_omit_target(x)).then_some(ParserError::WrongExpressionTarget(pos)),
+        Exp::Omit(x, pos) => (!is_omit_target(x)).then_some(ParserError::WrongExpressionTarget(
+            pos,
+        )),
         _ => None,
     }
 }
@@ -90,6 +98,7 @@ impl Counts {
     }
 }
 
+#[tactic(auto, using(crate::proofs::Walks::count_step, crate::proofs::Walks::count_end))]
 fn count(exps: &[Exp]) -> Counts
     requires { length exps.now ≤ 257 }
     ensures { (p : ℕ) → p < 15 → counts_of result p ≡ times_of exps.now p }

@@ -10,8 +10,9 @@ use crate::each::push_each;
 use expression::expression::Exp;
 use expression::parser_error::{Errors, ParserError};
 use intervals::{
-    AUGMENTED_FIFTH, DIMINISHED_FIFTH, DIMINISHED_SEVENTH, ELEVENTH, FLAT_NINTH, FLAT_THIRTEENTH, IntervalSet, MAJOR_SECOND, MAJOR_SEVENTH,
-    MAJOR_SIXTH, MAJOR_THIRD, MINOR_SECOND, MINOR_SIXTH, MINOR_THIRD, NINTH, PERFECT_FIFTH, SHARP_ELEVENTH, SHARP_NINTH, THIRTEENTH, st,
+    AUGMENTED_FIFTH, DIMINISHED_FIFTH, DIMINISHED_SEVENTH, ELEVENTH, FLAT_NINTH, FLAT_THIRTEENTH,
+    IntervalSet, MAJOR_SECOND, MAJOR_SEVENTH, MAJOR_SIXTH, MAJOR_THIRD, MINOR_SECOND, MINOR_SIXTH,
+    MINOR_THIRD, NINTH, PERFECT_FIFTH, SHARP_ELEVENTH, SHARP_NINTH, THIRTEENTH, st,
 };
 
 // Is the interval one that no extension may name?
@@ -38,7 +39,8 @@ fn fault_at(seen: IntervalSet, interval: u8, pos: u16) -> Option<ParserError>
     if is_bad_extension(interval) {
         Some(ParserError::InvalidExtension(pos))
     } else {
-        seen.contains(semitones_of(interval)).then_some(ParserError::DuplicateExtension(pos))
+        seen.contains(semitones_of(interval))
+            .then_some(ParserError::DuplicateExtension(pos))
     }
 }
 
