@@ -1,5 +1,4 @@
 -- What several proofs use, and closed cases.
 pub mod Choices
 mod Walks
-mod Arrays
 mod Specimens

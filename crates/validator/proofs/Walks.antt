@@ -34,17 +34,17 @@ exps_cons xs i d h =
     drop-cons xs i d h ∙ ap (λ (j : ℕ). get_or xs i d ∷ drop j xs) e
 
 module _ (xs : List Exp) (i : ℕ) (d : Exp) (h : i < length xs) where
-  pub count-step : (p : ℕ) → times_of (drop i xs) p ≡ cond (eqb (priority_of (get_or xs i d)) p) 1 0 + times_of (drop (i + 1) xs) p
+  pub count_step : (p : ℕ) → times_of (drop i xs) p ≡ cond (eqb (priority_of (get_or xs i d)) p) 1 0 + times_of (drop (i + 1) xs) p
   unfolding times_of
-  count-step p = ap (λ (l : List Exp). times_of l p) (exps_cons xs i d h)
+  count_step p = ap (λ (l : List Exp). times_of l p) (exps_cons xs i d h)
 
   pub fault_step : (seen : Set) → extension_fault seen (drop i xs) ≡ or_else (fault_of seen (get_or xs i d)) (extension_fault (seeing seen (get_or xs i d)) (drop (i + 1) xs))
   unfolding extension_fault
   fault_step seen = ap (extension_fault seen) (exps_cons xs i d h)
 
-pub count-end : (xs : List Exp) (i : ℕ) → length xs ≤ i → (p : ℕ) → times_of (drop i xs) p ≡ 0
+pub count_end : (xs : List Exp) (i : ℕ) → length xs ≤ i → (p : ℕ) → times_of (drop i xs) p ≡ 0
 unfolding times_of
-count-end xs i h p = ap (λ (l : List Exp). times_of l p) (drop_of_length-le xs h)
+count_end xs i h p = ap (λ (l : List Exp). times_of l p) (drop_of_length-le xs h)
 
 pub fault_end : (xs : List Exp) (i : ℕ) → length xs ≤ i → (seen : Set) → extension_fault seen (drop i xs) ≡ []
 unfolding extension_fault
@@ -167,10 +167,7 @@ unfolding all_from
 all_same f g zero i h = refl
 all_same f g (suc n) i h = λ t. h i (omega arith) t ++ all_same f g n (suc i) (λ k b. h k (omega arith)) t
 
--- no class has a last interval below 0, and n is the last of its class below n + 1
-pub last_start : (s : Set) (c : ℕ) → None ≡ last_in 0 s c
-last_start s c = refl
-
+-- n is the last of its class below n + 1, where it is in the set
 pub last_step : (n : ℕ) (s : Set) (c : ℕ) → cond (s n && eqb (semitones n % 12) c) (Some n) (last_in n s c) ≡ last_in (n + 1) s c
 unfolding last_below
 last_step n s c =

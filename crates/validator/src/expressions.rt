@@ -8,8 +8,8 @@ ghost use Rattle.validator.specs.Validator.{add_targets, omit_targets, wrong_of,
 use expression::expression::Exp;
 use expression::parser_error::{Errors, ParserError};
 use intervals::{
-    ELEVENTH, FLAT_NINTH, FLAT_THIRTEENTH, MAJOR_SECOND, MAJOR_SEVENTH, MAJOR_SIXTH, MAJOR_THIRD, MINOR_SIXTH, NINTH, PERFECT_FIFTH,
-    PERFECT_FOURTH, SHARP_ELEVENTH, SHARP_NINTH, THIRTEENTH,
+    FLAT_NINTH, MAJOR_SECOND, MAJOR_SEVENTH, MAJOR_SIXTH, MAJOR_THIRD, MINOR_SIXTH, PERFECT_FIFTH,
+    PERFECT_FOURTH, THIRTEENTH,
 };
 
 // Is the interval one that Add may name?
@@ -18,7 +18,13 @@ fn is_add_target(interval: u8) -> bool
 {
     matches!(
         interval,
-        MAJOR_SECOND | MAJOR_THIRD | PERFECT_FOURTH | MINOR_SIXTH | MAJOR_SIXTH | MAJOR_SEVENTH | FLAT_NINTH..=THIRTEENTH
+        MAJOR_SECOND
+            | MAJOR_THIRD
+            | PERFECT_FOURTH
+            | MINOR_SIXTH
+            | MAJOR_SIXTH
+            | MAJOR_SEVENTH
+            | FLAT_NINTH..=THIRTEENTH
     )
 }
 
@@ -29,16 +35,18 @@ fn is_omit_target(interval: u8) -> bool
     matches!(interval, MAJOR_THIRD | PERFECT_FIFTH)
 }
 
+// Add and Omit may name but the intervals of their lists.
 fn wrong_of(e: Exp) -> Option<ParserError>
     ensures { error_of result ≡ wrong_of e }
 {
     match e {
-        Exp::Add(x, pos) => (!is_add_target(x)).then_some(ParserError::WrongExpressionTarget(pos)),
-        Exp::Omit(x, pos) => (!is_omit_target(x)).then_some(ParserError::WrongExpressionTarget(pos)),
+        Exp::Add(x, pos) if !is_add_target(x) => Some(ParserError::WrongExpressionTarget(pos)),
+        Exp::Omit(x, pos) if !is_omit_target(x) => Some(ParserError::WrongExpressionTarget(pos)),
         _ => None,
     }
 }
 
+// The first wrong target.
 fn first_wrong(exps: &[Exp]) -> Option<ParserError>
     ensures { error_of result ≡ first_wrong exps.now }
 {
@@ -90,6 +98,7 @@ impl Counts {
     }
 }
 
+#[tactic(auto, using(crate::proofs::Walks::count_step, crate::proofs::Walks::count_end))]
 fn count(exps: &[Exp]) -> Counts
     requires { length exps.now ≤ 257 }
     ensures { (p : ℕ) → p < 15 → counts_of result p ≡ times_of exps.now p }
@@ -111,6 +120,7 @@ fn first_repeated(exps: &[Exp]) -> Option<ParserError>
     Some(ParserError::DuplicateModifier(priority as u16))
 }
 
+// One error at most: a wrong target goes before a repeated expression.
 pub(crate) fn validate_expressions(exps: &[Exp], errors: &mut Errors)
     requires { (length exps.now ≤ 257) × (4 * errors.old.count + 4 ≤ length errors.old.list.now) }
     ensures { Gained errors.old errors.new (expression_errors exps.now) × (errors.new.count ≤ errors.old.count + 1) }

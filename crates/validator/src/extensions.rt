@@ -10,8 +10,9 @@ use crate::each::push_each;
 use expression::expression::Exp;
 use expression::parser_error::{Errors, ParserError};
 use intervals::{
-    AUGMENTED_FIFTH, DIMINISHED_FIFTH, DIMINISHED_SEVENTH, ELEVENTH, FLAT_NINTH, FLAT_THIRTEENTH, IntervalSet, MAJOR_SECOND, MAJOR_SEVENTH,
-    MAJOR_SIXTH, MAJOR_THIRD, MINOR_SECOND, MINOR_SIXTH, MINOR_THIRD, NINTH, PERFECT_FIFTH, SHARP_ELEVENTH, SHARP_NINTH, THIRTEENTH, st,
+    AUGMENTED_FIFTH, DIMINISHED_FIFTH, DIMINISHED_SEVENTH, ELEVENTH, FLAT_NINTH, FLAT_THIRTEENTH,
+    IntervalSet, MAJOR_SECOND, MAJOR_SEVENTH, MAJOR_SIXTH, MAJOR_THIRD, MINOR_SECOND, MINOR_SIXTH,
+    MINOR_THIRD, NINTH, PERFECT_FIFTH, SHARP_ELEVENTH, SHARP_NINTH, THIRTEENTH, st,
 };
 
 // Is the interval one that no extension may name?
@@ -31,17 +32,19 @@ fn semitones_of(interval: u8) -> u8
     if interval < 23 { st(interval) } else { 0 }
 }
 
-// `seen` holds the semitones of the extensions before.
+// What is wrong with an extension; `seen` holds the semitones of the extensions before.
 fn fault_at(seen: IntervalSet, interval: u8, pos: u16) -> Option<ParserError>
     ensures { error_of result ≡ fault_at (members seen) interval pos }
 {
     if is_bad_extension(interval) {
         Some(ParserError::InvalidExtension(pos))
     } else {
-        seen.contains(semitones_of(interval)).then_some(ParserError::DuplicateExtension(pos))
+        seen.contains(semitones_of(interval))
+            .then_some(ParserError::DuplicateExtension(pos))
     }
 }
 
+// What is wrong with the first extension that is not as it should be.
 fn first_fault(exps: &[Exp]) -> Option<ParserError>
     ensures { error_of result ≡ extension_fault empty exps.now }
 {
@@ -69,6 +72,7 @@ const CONFLICTS: [(u8, u8); 8] = [
     (THIRTEENTH, FLAT_THIRTEENTH),
 ];
 
+// The error of the i-th pair, if the set has both.
 fn conflict_at(set: IntervalSet, i: usize) -> Option<ParserError>
     requires { i < 8 }
     ensures { error_of result ≡ conflict_at (members set) i }
@@ -84,6 +88,7 @@ pub(crate) fn has_conflict(set: IntervalSet) -> bool
     (0..CONFLICTS.len()).any(|i| conflict_at(set, i).is_some())
 }
 
+// The pairs are looked at only where each extension is as it should be.
 pub(crate) fn validate_extensions(exps: &[Exp], set: IntervalSet, errors: &mut Errors)
     requires { 4 * errors.old.count + 32 ≤ length errors.old.list.now }
     ensures { Gained errors.old errors.new (extension_errors exps.now (members set)) × (errors.new.count ≤ errors.old.count + 8) }

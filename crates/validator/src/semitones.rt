@@ -10,6 +10,7 @@ use crate::each::push_each;
 use expression::parser_error::{Errors, ParserError};
 use intervals::{IntervalSet, st};
 
+// Semitones that are octaves apart are of one class.
 fn class_of(i: u8) -> usize
     requires { i < 23 }
     ensures { result ≡ semitones i % 12 }
@@ -30,7 +31,7 @@ fn last_of_class(set: IntervalSet) -> [Option<u8>; 12]
     lasts
 }
 
-// The class c and the next two, in the array of the last intervals.
+// The error of the class c and the next two, if each has a last interval.
 fn neighbours_at(lasts: &[Option<u8>; 12], c: usize) -> Option<ParserError>
     requires { c < 12 }
     ensures { error_of result ≡ neighbours_in (last_at lasts.now) c }
@@ -53,6 +54,7 @@ pub(crate) fn has_neighbours(set: IntervalSet) -> bool
     (0..12).any(|c| neighbours_at(&lasts, c).is_some())
 }
 
+// An error for each three neighbours.
 pub(crate) fn validate_semitones(set: IntervalSet, errors: &mut Errors)
     requires { 4 * errors.old.count + 48 ≤ length errors.old.list.now }
     ensures { Gained errors.old errors.new (semitone_errors (members set)) × (errors.new.count ≤ errors.old.count + 12) }

@@ -21,12 +21,12 @@ loop-i-preserved g c =
     let v = c.loop-i.invariant in
     let i = c.loop-i.i in
     elim c.match-at.branch [
-      in-Some w ↦ rw w.errors-is (record {
+      | in-Some w ↦ rw w.errors-is (record {
         gained = λ f h. gained_more f i (v.gained f h) (gained_as (h i (Some w.in-Some.e) c.loop-i-test.true w.in-Some.ensures) w.push.ensures);
         count = omega (arith, v.count, w.push.ensures.wrote.count);
         size = w.push.ensures.size ∙ v.size;
       })
-    | in_default w ↦ rw w.errors-is (record {
+      | in_default w ↦ rw w.errors-is (record {
         gained = λ f h. gained_more f i (v.gained f h) (gained_as (h i None c.loop-i-test.true w.in_default.ensures) (gained_none _));
         count = omega (arith, v.count);
         size = v.size;

@@ -1,14 +1,12 @@
 -- By the place of the first count above 1, and by what the counts are.
 -- Assumes nothing.
 use Prim.Native.Nat.{ℕ, ◌≤◌, ◌<◌}
-use mathlib.Core.List.{List}
 use mathlib.Core.Path.{◌≡◌, ap, ◌∙◌}
 use native.Mathlib.Omega.{arith}
 use lib.Dec.{ltb}
 use Rattle.std.proofs.Common.{rules}
 use Rattle.std.specs.declared.option.Option.TheVariants.{None, Some}
 use Rattle.expression.specs.declared.parser_error.ParserError.TheVariants.{DuplicateModifier}
-use Rattle.expression.specs.declared.parser_error.ParserError.{ParserError}
 use Rattle.validator.proofs.Walks.{first_is, first_same, once, repeats}
 use Rattle.validator.specs.State.{counts_of, error_of}
 use Rattle.validator.specs.Validator.{first_from, only, repeated_at, times_of}

@@ -6,8 +6,8 @@ use Rattle.expression.specs.declared.expression.Exp.TheVariants.{Extension, Powe
 use Rattle.validator.proofs.Walks.{fault_step, fault_end}
 use Rattle.validator.specs.Validator.{extension_fault, fault_of, or_else, seeing}
 use Rattle.std.proofs.Common.{rules}
-use Rattle.intervals.specs.Interval.{Set, insert, semitones}
-use Rattle.intervals.specs.declared.IntervalSet.{IntervalSet}
+use Rattle.std.proofs.lemmas.Grind.{common_steps}
+use native.Mathlib.Omega.{arith}
 use lib.ListN.{drop, get_or}
 use mathlib.Core.List.{List, []}
 use mathlib.Core.Path.{◌≡◌, sym, ap, ◌∙◌}
@@ -33,16 +33,11 @@ loop-e-preserved c =
     let rest = drop (i + 1) xs in
     let now = c.loop-e.invariant ∙ fault_step xs i Power c.loop-e-test.true s in
     elim c.match-e.branch [
-      in-Extension+in_default-fault_at w ↦
-          let x = semitones w.in-Extension.x in
-          now ∙ ap (λ (e : Exp). or_else (fault_of s e) (extension_fault (seeing s e) rest)) w.in-Extension.is
-          ∙ ap (λ (q : List ParserError). or_else q (extension_fault (insert s x) rest)) (sym w.in_default-fault_at.ensures)
-          ∙ ap (λ (t : Set). extension_fault t rest) (sym (ap members w.seen-is ∙ w.insert-seen.ensures ∙ ap (insert s) w.semitones_of.ensures.0))
-    | in_default w ↦
-          let e = get_or xs i Power in
-          let p : fault_of s e ≡ [] = search rules in
-          let q : seeing s e ≡ s = search rules in
-          now ∙ (λ t. or_else (p t) (extension_fault (q t) rest)) ∙ ap (λ (t : IntervalSet). extension_fault (members t) rest) (sym w.seen-is)
+      | in-Extension+in_default-fault_at w ↦ rw w.seen-is (now ∙ grind (arith, common_steps, w.in-Extension.is, w.in_default-fault_at.ensures, w.insert-seen.ensures, w.semitones_of.ensures))
+      | in_default w ↦
+          let p : fault_of s (get_or xs i Power) ≡ [] = search rules in
+          let q : seeing s (get_or xs i Power) ≡ s = search rules in
+          rw w.seen-is (now ∙ λ t. or_else (p t) (extension_fault (q t) rest))
     ]
 
 pub returns : goal.returns
