@@ -12,6 +12,7 @@ use output::Output;
 use std::io;
 
 // What is counted, and the buffers that a record is written and read in.
+#[derive(Drop)]
 struct Trips {
     pairs: u64,
     rootless: u64,
