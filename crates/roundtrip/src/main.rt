@@ -6,257 +6,162 @@
 #![tactic(auto)]
 
 use chord::Chord;
-use intervals::{IntervalList, IntervalSet};
+use intervals::IntervalSet;
 use note::Note;
+use output::Output;
 use std::io;
-use std::io::Write;
 
-#[derive(Clone, Copy)]
-struct Counts {
+// What is counted, and the buffers that a record is written and read in.
+#[derive(Drop)]
+struct Trips {
     pairs: u64,
     rootless: u64,
     texts: u64,
     wrong: u64,
     longest: usize,
+    text: [u8; 112],
+    errs: [u16; 1028],
+}
+
+// The note of a number below 21.
+fn note(number: u8) -> Option<Note> {
+    Some(Note::from_number(number))
 }
 
 // One more, up to the largest number.
-fn more(n: u64) -> u64 {
-    if n < u64::MAX {
-        return n + 1;
-    }
-    n
-}
-
-// The note of a number below 21; none of 21.
-fn note_of(number: u8) -> Option<Note> {
-    if number < 21 {
-        return Some(Note::from_number(number));
-    }
-    None
+fn count(n: &mut u64) {
+    *n = n.saturating_add(1);
 }
 
 // Is the text accepted, with the record's four?
 fn reads_as(text: &[u8], chord: Chord, errs: &mut [u16]) -> bool {
-    let r = reader::read(text, errs);
-    let answer = r.answer;
-    let read = r.chord;
-    match answer {
-        reader::Answer::Accepted => chord.same(read),
-        _ => false,
+    let reading = reader::read(text, errs);
+    matches!(reading.answer, reader::Answer::Accepted) && chord.same(reading.chord)
+}
+
+// The bytes of a record's spelling.
+fn written(chord: Chord, buffer: &mut [u8]) -> Option<&[u8]> {
+    match writer::write(chord, buffer) {
+        writer::Answer::Spelled(n) => buffer.get(..n),
+        _ => None,
     }
 }
 
-// Whether a record was written and its spelling reads as its four, and how long this is.
-#[derive(Clone, Copy)]
-struct Back {
-    same: bool,
-    len: usize,
-}
+impl Trips {
+    // Nothing is counted yet.
+    fn new() -> Trips {
+        Trips {
+            pairs: 0,
+            rootless: 0,
+            texts: 0,
+            wrong: 0,
+            longest: 0,
+            text: [0; 112],
+            errs: [0; 1028],
+        }
+    }
 
-fn read_back(chord: Chord, buffer: &mut [u8], errs: &mut [u16]) -> Back {
-    let wrong = Back {
-        same: false,
-        len: 0,
-    };
-    match writer::write(chord, buffer) {
-        writer::Answer::Spelled(n) => {
-            if buffer.len() < n {
-                return wrong;
-            }
-            Back {
-                same: reads_as(&buffer[..n], chord, errs),
-                len: n,
+    // Writes a record and reads its spelling back: a text more, and one more wrong where it is not the record's.
+    fn read_back(&mut self, chord: Chord) {
+        count(&mut self.texts);
+        let text = written(chord, &mut self.text);
+        self.longest = self.longest.max(text.map_or(0, |text| text.len()));
+        if !text.is_some_and(|text| reads_as(text, chord, &mut self.errs)) {
+            count(&mut self.wrong);
+        }
+    }
+
+    // The record with every bass and none.
+    fn with_basses(&mut self, record: Chord) {
+        for bass in 0..21 {
+            self.read_back(Chord {
+                bass: note(bass),
+                ..record
+            });
+        }
+        self.read_back(record);
+    }
+
+    // The record with every root.
+    fn with_roots(&mut self, record: Chord) {
+        for root in 0..21 {
+            self.with_basses(Chord {
+                root: note(root),
+                ..record
+            });
+        }
+    }
+
+    // A record without a root, if it has a text.
+    fn with_rootless(&mut self, record: Chord) {
+        if writer::has_text(record) {
+            count(&mut self.rootless);
+            self.read_back(record);
+        }
+    }
+
+    // The record without a root, with every bass and none.
+    fn without_root(&mut self, record: Chord) {
+        for bass in 0..21 {
+            self.with_rootless(Chord {
+                bass: note(bass),
+                ..record
+            });
+        }
+        self.with_rootless(record);
+    }
+
+    // The set and the display list of a record without notes.
+    fn with_list(&mut self, record: Chord) {
+        self.without_root(record);
+        let rooted = Chord {
+            root: note(0),
+            ..record
+        };
+        if writer::has_text(rooted) {
+            count(&mut self.pairs);
+            self.with_roots(record);
+        }
+    }
+
+    // The set with each display list that it has: that of no first sus, and those of a first sus that are not the same.
+    fn with_lists(&mut self, set: IntervalSet) {
+        let plain = Chord {
+            root: None,
+            bass: None,
+            normalized: set,
+            display: display::display(0, set),
+        };
+        self.with_list(plain);
+        for k in [1, 2, 6] {
+            let list = display::display(k, set);
+            if !list.same(plain.display) {
+                self.with_list(Chord {
+                    display: list,
+                    ..plain
+                });
             }
         }
-        writer::Answer::ShortBuffer => wrong,
-        writer::Answer::NoText => wrong,
     }
 }
 
-// One more text, and one more wrong where it is not the same.
-fn counted(c: Counts, b: Back) -> Counts {
-    let mut d = c;
-    d.texts = more(c.texts);
-    if !b.same {
-        d.wrong = more(c.wrong);
-    }
-    if c.longest < b.len {
-        d.longest = b.len;
-    }
-    d
-}
-
-fn record(set: IntervalSet, list: IntervalList, root: u8, bass: u8) -> Chord {
-    Chord {
-        root: note_of(root),
-        bass: note_of(bass),
-        normalized: set,
-        display: list,
-    }
-}
-
-// The record with every bass and none.
-fn with_basses(
-    c: Counts,
-    set: IntervalSet,
-    list: IntervalList,
-    root: u8,
-    buffer: &mut [u8],
-    errs: &mut [u16],
-) -> Counts {
-    let mut d = c;
-    let mut bass = 0;
-    while bass < 22 {
-        d = counted(d, read_back(record(set, list, root, bass), buffer, errs));
-        bass += 1;
-    }
-    d
-}
-
-// The record with every root.
-fn with_roots(
-    c: Counts,
-    set: IntervalSet,
-    list: IntervalList,
-    buffer: &mut [u8],
-    errs: &mut [u16],
-) -> Counts {
-    let mut d = c;
-    let mut root = 0;
-    while root < 21 {
-        d = with_basses(d, set, list, root, buffer, errs);
-        root += 1;
-    }
-    d
-}
-
-fn one_pair(c: Counts) -> Counts {
-    let mut d = c;
-    d.pairs = more(c.pairs);
-    d
-}
-
-fn one_rootless(c: Counts) -> Counts {
-    let mut d = c;
-    d.rootless = more(c.rootless);
-    d
-}
-
-// A record without a root, if it has a text.
-fn with_rootless(c: Counts, chord: Chord, buffer: &mut [u8], errs: &mut [u16]) -> Counts {
-    if writer::has_text(chord) {
-        return counted(one_rootless(c), read_back(chord, buffer, errs));
-    }
-    c
-}
-
-// The record without a root, with every bass and none.
-fn without_root(
-    c: Counts,
-    set: IntervalSet,
-    list: IntervalList,
-    buffer: &mut [u8],
-    errs: &mut [u16],
-) -> Counts {
-    let mut d = c;
-    let mut bass = 0;
-    while bass < 22 {
-        d = with_rootless(d, record(set, list, 21, bass), buffer, errs);
-        bass += 1;
-    }
-    d
-}
-
-// The set with a display list.
-fn with_list(
-    c: Counts,
-    set: IntervalSet,
-    list: IntervalList,
-    buffer: &mut [u8],
-    errs: &mut [u16],
-) -> Counts {
-    let d = without_root(c, set, list, buffer, errs);
-    if writer::has_text(record(set, list, 0, 21)) {
-        return with_roots(one_pair(d), set, list, buffer, errs);
-    }
-    d
-}
-
-// The set with the display list of a first sus k, where it is not that of none.
-fn with_sus(
-    c: Counts,
-    set: IntervalSet,
-    plain: IntervalList,
-    k: u8,
-    buffer: &mut [u8],
-    errs: &mut [u16],
-) -> Counts {
-    let list = display::display(k, set);
-    if list.same(plain) {
-        return c;
-    }
-    with_list(c, set, list, buffer, errs)
-}
-
-// The set with the display list of each first sus.
-fn with_each_sus(
-    c: Counts,
-    set: IntervalSet,
-    plain: IntervalList,
-    buffer: &mut [u8],
-    errs: &mut [u16],
-) -> Counts {
-    let a = with_sus(c, set, plain, 1, buffer, errs);
-    let b = with_sus(a, set, plain, 2, buffer, errs);
-    with_sus(b, set, plain, 6, buffer, errs)
-}
-
-// The set with each display list that it has.
-fn with_lists(c: Counts, set: IntervalSet, buffer: &mut [u8], errs: &mut [u16]) -> Counts {
-    let plain = display::display(0, set);
-    let a = with_list(c, set, plain, buffer, errs);
-    with_each_sus(a, set, plain, buffer, errs)
-}
-
-// What is counted over all the sets.
-fn every_set(buffer: &mut [u8], errs: &mut [u16]) -> Counts {
-    let mut c = Counts {
-        pairs: 0,
-        rootless: 0,
-        texts: 0,
-        wrong: 0,
-        longest: 0,
-    };
-    let mut bits = 0;
-    while bits < 8388608 {
-        c = with_lists(c, IntervalSet { bits }, buffer, errs);
-        bits += 1;
-    }
-    c
-}
-
-// Writes a number and what it counts.
-fn print_count<W: Write>(to: &mut W, n: u64, of: &[u8]) -> io::Result<()> {
-    print_number(to, n)?;
-    to.write_all(of)
-}
-
-fn print_number<W: Write>(to: &mut W, n: u64) -> io::Result<()> {
-    let mut text = [0u8; 20];
-    let k = output::put_number(&mut text, 0, n, 0);
-    output::flush(to, &text, k)?;
-    Ok(())
+// Appends a number and what it counts.
+fn put_count(out: &mut Output, n: u64, of: &[u8]) {
+    out.put_number(n, 0);
+    out.put_bytes(of);
 }
 
 fn main(rt: HostRuntime) -> io::Result<()> {
-    let mut to = rt.stdout();
-    let mut buffer = [0u8; 112];
-    let mut errs = [0u16; 1028];
-    let c = every_set(&mut buffer, &mut errs);
-    print_count(&mut to, c.pairs, b" pairs of set and display list\n")?;
-    print_count(&mut to, c.rootless, b" without a root\n")?;
-    print_count(&mut to, c.texts, b" texts\n")?;
-    print_count(&mut to, c.wrong, b" refused or read as another four\n")?;
-    print_count(&mut to, c.longest as u64, b" bytes in the longest\n")
+    let mut trips = Trips::new();
+    for bits in 0..8388608 {
+        trips.with_lists(IntervalSet { bits });
+    }
+    let mut waiting = [0u8; 512];
+    let mut out = Output::new(&mut waiting);
+    put_count(&mut out, trips.pairs, b" pairs of set and display list\n");
+    put_count(&mut out, trips.rootless, b" without a root\n");
+    put_count(&mut out, trips.texts, b" texts\n");
+    put_count(&mut out, trips.wrong, b" refused or read as another four\n");
+    put_count(&mut out, trips.longest as u64, b" bytes in the longest\n");
+    out.flush(&mut rt.stdout())
 }

@@ -8,7 +8,7 @@ use lib.ListN.{length, drop, length-drop}
 use Rattle.utf8.specs.Utf8.{char_at}
 use Rattle.utf8.specs.declared.Found.TheVariants.{Char}
 use Rattle.utf8.proofs.Laws.{found-size, found_within}
-use Rattle.utf8_vectors.proofs.write_char.Goals as goal
+use Rattle.utf8_vectors.proofs.put_char.Goals as goal
 
 -- the position after a character
 after : (s : List ℕ) (at c n : ℕ) → at < length s → char_at s at ≡ Char c n → (at < at + n) × (at + n ≤ length s)
@@ -19,9 +19,9 @@ after s at c n h e =
     (omega arith, omega arith)
 
 pub overflow_add-result : goal.overflow_add-result
-overflow_add-result g c =
+overflow_add-result c =
     let p = after c.args.bytes.now c.args.at c.in-Char.code c.in-Char.n c.requires (sym c.in-Char.ensures) in
     omega arith
 
-pub returns-in_ok-write_code-in-Char : goal.returns-in_ok-write_code-in-Char
-returns-in_ok-write_code-in-Char g c = after c.args.bytes.now c.args.at c.in-Char.code c.in-Char.n c.requires (sym c.in-Char.ensures)
+pub returns-in-Char : goal.returns-in-Char
+returns-in-Char c = after c.args.bytes.now c.args.at c.in-Char.code c.in-Char.n c.requires (sym c.in-Char.ensures)
