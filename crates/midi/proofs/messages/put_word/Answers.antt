@@ -4,7 +4,7 @@
 use mathlib.Core.Path.{◌≡◌}
 use Prim.Native.Nat.{◌*◌, ◌%◌, ◌^◌, ◌<◌}
 use native.Mathlib.Omega.{arith}
-use lib.Count.{count_trailing_zeros, trailing_le}
+use lib.Count.{count_trailing_zeros}
 use Rattle.intervals.proofs.Bits.{power}
 use Rattle.midi.proofs.Words.{finish, less, next_place, room, start, step}
 use Rattle.midi.proofs.messages.put_word.Goals as goal
@@ -14,25 +14,10 @@ loop-left-init c =
     let a = c.args in
     start a.touch.status a.touch.velocity a.from a.bits a.out.now c.ranges.bits.fits
 
-pub overflow_cast-t : goal.overflow_cast-t
-overflow_cast-t c = omega (arith, trailing_le 64 c.loop-left.left)
-
-pub overflow_add-from : goal.overflow_add-from
-overflow_add-from c = omega (arith, trailing_le 64 c.loop-left.left, c.requires.0)
-
 pub put_message-requires : goal.put_message-requires
 put_message-requires c =
     let h : 0 < c.loop-left.left = omega (arith, c.loop-left-test.true) in
     room c.loop-left.invariant h c.requires.1
-
-pub overflow_cast-left : goal.overflow_cast-left
-overflow_cast-left c = omega (arith, trailing_le 64 c.loop-left.left)
-
-pub overflow_shl-left : goal.overflow_shl-left
-overflow_shl-left c =
-    let l = c.loop-left in
-    let h : 0 < l.left = omega (arith, c.loop-left-test.true) in
-    omega (arith, (next_place l.invariant h).place)
 
 pub overflow_sub-left : goal.overflow_sub-left
 overflow_sub-left c =
