@@ -5,7 +5,7 @@ ghost use Rattle.std.specs.Prelude.{true, ◌↔◌, ◌≡◌, ◌≤◌, lengt
 ghost use Rattle.chord.specs.Chord.{four_of};
 ghost use Rattle.house_text.specs.Spelling.{house};
 ghost use Rattle.writer.specs.State.{Put, Written};
-ghost use Rattle.writer.specs.Writer.{HasText};
+ghost use Rattle.writer.specs.Writer.{HasText, number};
 
 use chord::Chord;
 use house_parts::question::is_realizable;
@@ -20,6 +20,18 @@ mod spelling;
 pub enum Refusal {
     ShortBuffer,
     NoText,
+}
+
+// The paper's number.
+impl From<Refusal> for u8 {
+    ghost from_gives = { λ e n. n ≡ number e };
+
+    fn from(refusal: Refusal) -> u8 {
+        match refusal {
+            Refusal::ShortBuffer => 6,
+            Refusal::NoText => 7,
+        }
+    }
 }
 
 // Has some accepted text exactly the record's four?
