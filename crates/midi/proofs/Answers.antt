@@ -14,11 +14,10 @@ use Rattle.intervals.specs.Interval.{Set}
 use Rattle.keys.specs.Keys.{keys_of, outside, wants}
 use Rattle.keys.specs.Stored.{members}
 use Rattle.keys.specs.declared.Keys.{Keys}
-use Rattle.midi.specs.Midi.{NextOutcome, between, go_to, length_of, next_of, number_of, refused, sent}
+use Rattle.midi.specs.Midi.{NextOutcome, between, go_to, next_of, number, refused, sent}
 use Rattle.midi.specs.State.{NextGave}
-use Rattle.midi.specs.declared.Answer.TheVariants.{Sent}
-use Rattle.midi.specs.declared.Answer.{Answer}
-use Rattle.midi.specs.declared.Step.{Step}
+use Rattle.midi.specs.declared.Refusal.{Refusal}
+use Rattle.std.specs.Prelude.{Ok, Err}
 use Rattle.writer.proofs.Puts.{put_whole}
 use Rattle.writer.specs.State.{Put}
 
@@ -76,15 +75,15 @@ module _ (room : ℕ) (s : Set) (base : ℕ) (f : Four) where
 -- ---- what the code gave
 
 -- a refusal leaves the keys and the output as they were
-pub gave_refused : {o : NextOutcome} {n : ℕ} (a : Answer) (s : Keys) (bs : List ℕ) {r : Step} → (r.answer ≡ a) × (r.keys ≡ s)
-    → o ≡ refused n (members s) → number_of a ≡ n → length_of a ≡ 0 → NextGave o r bs bs
-gave_refused a s bs {r} w e n l =
-    subst (λ (o : NextOutcome). NextGave o r bs bs) (sym e)
-    (record { number = ap number_of w.0 ∙ n; size = ap length_of w.0 ∙ l; keys = ap members w.1; output = refl })
+pub gave_refused : {o : NextOutcome} (e : Refusal) (s : Keys) (bs : List ℕ) → o ≡ refused (number e) (members s)
+    → NextGave o (record { answer = Err e; keys = s }) bs bs
+gave_refused {o} e s bs h =
+    subst (λ (o : NextOutcome). NextGave o (record { answer = Err e; keys = s }) bs bs) (sym h)
+    (record { number = refl; size = refl; keys = refl; output = refl })
 
 pub gave_sent : {o : NextOutcome} {w : Set} {t : List ℕ} (s : Keys) {r : ℕ} {bs bs' : List ℕ} → o ≡ sent w t → members s ≡ w
-    → Put 0 r t bs bs' → NextGave o (record { answer = Sent r; keys = s }) bs bs'
+    → Put 0 r t bs bs' → NextGave o (record { answer = Ok r; keys = s }) bs bs'
 gave_sent {o} {w} {t} s {r} {bs} {bs'} e f p =
     let k : r ≡ length t = omega (arith, p.count) in
-    subst (λ (o : NextOutcome). NextGave o (record { answer = Sent r; keys = s }) bs bs') (sym e)
+    subst (λ (o : NextOutcome). NextGave o (record { answer = Ok r; keys = s }) bs bs') (sym e)
     (record { number = refl; size = k; keys = f; output = put_whole p })

@@ -12,8 +12,9 @@ use Rattle.keys.proofs.Places.{FirstAt, first, places-none}
 use Rattle.keys.specs.Keys.{ascending, minus}
 use Rattle.keys.specs.Stored.{places}
 use Rattle.midi.specs.Midi.{between, messages, offs, ons}
-use Rattle.writer.proofs.Puts.{put_as, put-length, put-none, put_then}
-use Rattle.writer.specs.State.{Put}
+use Rattle.writer.proofs.Puts.{grew_none, grew_then, grew_as}
+use Rattle.writer.specs.State.{Grew}
+use Rattle.writer.specs.declared.buffer.Buffer.{Buffer}
 
 module _ (a v : ℕ) where
   pub messages-length : (ks : List ℕ) → length (messages a v ks) ≡ 3 * length ks
@@ -34,34 +35,31 @@ module _ (a v : ℕ) where
   unfolding messages
   messages-none = refl
 
--- of the messages a, key, v for the digits of a number, written behind the first n bytes: those of the keys `done` are written, and those
--- of the digits that are left are not
-pub record Progress (a v from bits n : ℕ) (bs bs' : List ℕ) (m left : ℕ) : Type 0 where
+-- of the messages a, key, v for the digits of a number, written to the buffer b, which is b' now: those of the keys `done` are written,
+-- and those of the digits that are left are not
+pub record Progress (a v from bits : ℕ) (b b' : Buffer) (left : ℕ) : Type 0 where
   pub small : left < 2 ^ 64
   pub done : List ℕ
   pub list : done ++ places 64 from left ≡ places 64 from bits
-  pub put : Put n m (messages a v done) bs bs'
+  pub grew : Grew b b' (messages a v done)
 
-pub start : (a v from bits n : ℕ) (bs : List ℕ) → bits < 2 ^ 64 → Progress a v from bits n bs bs n bits
-start a v from bits n bs h = record { small = h; done = []; list = refl; put = put_as (sym (messages-none a v)) (put-none n bs) }
+pub start : (a v from bits : ℕ) (b : Buffer) → bits < 2 ^ 64 → Progress a v from bits b b bits
+start a v from bits b h = record { small = h; done = []; list = refl; grew = grew_as (sym (messages-none a v)) (grew_none b) }
 
-module _ {a v from bits n : ℕ} {bs bs' : List ℕ} {m left : ℕ} (p : Progress a v from bits n bs bs' m left) where
-  lengths : length p.done + length (places 64 from left) ≡ length (places 64 from bits)
-  lengths = sym (length-append p.done (places 64 from left)) ∙ ap length p.list
-
-  -- the buffer keeps its length
-  pub kept : n + 3 * length (places 64 from bits) ≤ length bs → length bs' ≡ length bs
-  kept h = put-length p.put (omega (arith, p.put.count, messages-length a v p.done, lengths))
-
+module _ {a v from bits : ℕ} {b b' : Buffer} {left : ℕ} (p : Progress a v from bits b b' left) where
   module _ (h : 0 < left) where
     pub next_place : FirstAt (count_trailing_zeros 64 left) 64 from left
     next_place = first 64 from left h p.small
 
-    pub room : n + 3 * length (places 64 from bits) ≤ length bs → m + 3 ≤ length bs'
-    room g = omega (arith, p.put.count, messages-length a v p.done, lengths, kept g, ap length next_place.list)
+    pub room : b.len + 3 * length (places 64 from bits) ≤ length b.bytes.now → b'.len + 3 ≤ length b'.bytes.now
+    room g =
+        let l : length p.done + length (places 64 from left) ≡ length (places 64 from bits) =
+        sym (length-append p.done (places 64 from left)) ∙ ap length p.list
+        in
+        omega (arith, g, p.grew.put.count, messages-length a v p.done, l, p.grew.size, ap length next_place.list)
 
-    pub step : {bs'' : List ℕ} {r : ℕ} → Put m r (a ∷ (from + count_trailing_zeros 64 left) ∷ v ∷ []) bs' bs''
-        → Progress a v from bits n bs bs'' r (left - 2 ^ count_trailing_zeros 64 left)
+    pub step : {b'' : Buffer} → Grew b' b'' (a ∷ (from + count_trailing_zeros 64 left) ∷ v ∷ [])
+        → Progress a v from bits b b'' (left - 2 ^ count_trailing_zeros 64 left)
     step w =
         let t = count_trailing_zeros 64 left in
         let k = from + t in
@@ -71,17 +69,17 @@ module _ {a v from bits n : ℕ} {bs bs' : List ℕ} {m left : ℕ} (p : Progres
           small = omega (arith, p.small);
           done = p.done ++ (k ∷ []);
           list = append_assoc p.done (k ∷ []) (places 64 from (left - 2 ^ t)) ∙ e ∙ p.list;
-          put = put_as (f ∙ sym (messages_append a v p.done (k ∷ []))) (put_then p.put w);
+          grew = grew_as (f ∙ sym (messages_append a v p.done (k ∷ []))) (grew_then p.grew w);
         }
 
     pub less : left - 2 ^ count_trailing_zeros 64 left < left
     less = omega (arith, pow_pos (count_trailing_zeros 64 left), next_place.small)
 
-  pub finish : left ≡ 0 → Put n m (messages a v (places 64 from bits)) bs bs'
+  pub finish : left ≡ 0 → Grew b b' (messages a v (places 64 from bits))
   finish e =
       let f = ap (places 64 from) e ∙ places-none 64 from in
       let d : p.done ≡ places 64 from bits = sym (append-nil p.done) ∙ ap (λ (l : List ℕ). p.done ++ l) (sym f) ∙ p.list in
-      put_as (ap (messages a v) d) p.put
+      grew_as (ap (messages a v) d) p.grew
 
 -- three bytes for each key that only one of two sets has, whichever of them come first
 pub between-length : (s w : Set) → length (between s w) ≡ 3 * (length (ascending (minus s w)) + length (ascending (minus w s)))

@@ -1,24 +1,30 @@
 -- MIDI out: document 02 [7] in its words, over the keys that a chord wants.
-use Rattle.std.specs.Prelude.{cond, List, [], ◌∷◌, ◌++◌, ℕ, ltb, ℤ, length}
+use Rattle.std.specs.Prelude.{Result, Ok, Err, cond, List, [], ◌∷◌, ◌++◌, ℕ, ltb, ℤ, length}
 use Rattle.chord.specs.Chord.{Four}
 use Rattle.house_parts.specs.Question.{realizable}
 use Rattle.intervals.specs.Interval.{Set}
 use Rattle.keys.specs.Keys.{ascending, keys_of, minus, outside, wants}
-use Rattle.midi.specs.declared.Answer.TheVariants.{Sent, NoText, OutsideKeys, ShortOutput}
-use Rattle.midi.specs.declared.Answer.{Answer}
+use Rattle.midi.specs.declared.Refusal.TheVariants.{NoText, OutsideKeys, ShortOutput}
+use Rattle.midi.specs.declared.Refusal.{Refusal}
+
+-- the answer to a chord: the length of its messages, or why it is refused
+abbrev pub Answer : Type 0
+Answer = Result ℕ Refusal
+
+-- the paper's number of a refusal
+abbrev pub number : Refusal → ℕ
+number NoText = 7
+number OutsideKeys = 10
+number ShortOutput = 11
 
 -- the paper's number of an answer, 0 for a chord that is not refused, and the length that it carries
 abbrev pub number_of : Answer → ℕ
-number_of (Sent n) = 0
-number_of NoText = 7
-number_of OutsideKeys = 10
-number_of ShortOutput = 11
+number_of (Ok n) = 0
+number_of (Err e) = number e
 
 abbrev pub length_of : Answer → ℕ
-length_of (Sent n) = n
-length_of NoText = 0
-length_of OutsideKeys = 0
-length_of ShortOutput = 0
+length_of (Ok n) = n
+length_of (Err e) = 0
 
 -- a message of three bytes for each key
 unfoldable pub messages : ℕ → ℕ → List ℕ → List ℕ

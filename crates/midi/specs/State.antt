@@ -4,8 +4,12 @@ use Rattle.chord.specs.Chord.{four_of}
 use Rattle.chord.specs.declared.Chord.{Chord}
 use Rattle.keys.specs.Stored.{members}
 use Rattle.keys.specs.declared.Keys.{Keys}
-use Rattle.midi.specs.Midi.{NextOutcome, length_of, next_of, number_of}
-use Rattle.midi.specs.declared.Step.{Step}
+use Rattle.midi.specs.Midi.{Answer, NextOutcome, length_of, next_of, number_of}
+
+-- the answer, and the keys that sound after it
+pub record Step : Type 0 where
+  pub answer : Answer
+  pub keys : Keys
 
 pub record NextGave (o : NextOutcome) (r : Step) (bs bs' : List ℕ) : Type 0 where
   pub number : number_of r.answer ≡ o.number

@@ -2,61 +2,58 @@
 #![tactic(auto)]
 
 ghost use Rattle.std.specs.Prelude.{◌≡◌};
+ghost use Rattle.midi.specs.Midi.{number};
 ghost use Rattle.midi.specs.State.{Next};
 
 use chord::Chord;
 use keys::Keys;
 use keys::wanted::keys_of;
 use messages::{length_between, put_between};
+use writer::buffer::Buffer;
 use writer::has_text;
 
 pub mod messages;
 
-// The answer to a chord; that of one that is not refused carries the length of its messages.
-#[derive(Clone, Copy)]
-pub enum Answer {
-    Sent(usize),
+// Why a chord is refused.
+#[derive(Clone, Copy, PartialEq, Eq)]
+pub enum Refusal {
     NoText,
     OutsideKeys,
     ShortOutput,
 }
 
-// The answer, and the keys that sound after it.
-#[derive(Clone, Copy)]
-pub struct Step {
-    pub answer: Answer,
-    pub keys: Keys,
-}
+// The paper's number.
+impl From<Refusal> for u8 {
+    ghost from_gives = { λ e n. n ≡ number e };
 
-// A refusal keeps the old chord sounding.
-fn refused(answer: Answer, sounding: Keys) -> Step
-    ensures { (result.answer ≡ answer) × (result.keys ≡ sounding) }
-{
-    Step {
-        answer,
-        keys: sounding,
+    fn from(refusal: Refusal) -> u8 {
+        match refusal {
+            Refusal::NoText => 7,
+            Refusal::OutsideKeys => 10,
+            Refusal::ShortOutput => 11,
+        }
     }
 }
 
-// Goes from any keys that sound to any chord, over any base key. The messages fill their own bytes of any lent output, from the first on;
-// all else in it is untouched. A chord that is refused leaves the keys that sound and the whole output as they were.
-pub fn next(sounding: Keys, base: u8, chord: Chord, out: &mut [u8]) -> Step
-    ensures { Next sounding base chord out.old out.new result }
+// Goes from any keys that sound to any chord, over any base key. The messages fill their own bytes of any lent output, from the first on,
+// and their length is returned; all else in the output is untouched. A chord that is refused leaves the keys that sound and the whole
+// output as they were.
+pub fn next(sounding: &mut Keys, base: u8, chord: Chord, out: &mut [u8]) -> Result<usize, Refusal>
+    ensures { Next sounding.old base chord out.old out.new (record { answer = result; keys = sounding.new }) }
 {
     if !has_text(chord) {
-        return refused(Answer::NoText, sounding);
+        return Err(Refusal::NoText);
     }
-    let w = keys_of(base, chord);
-    if w.outside {
-        return refused(Answer::OutsideKeys, sounding);
+    let wanted = keys_of(base, chord);
+    if wanted.outside {
+        return Err(Refusal::OutsideKeys);
     }
-    let keys = w.keys;
-    if out.len() < length_between(sounding, keys) {
-        return refused(Answer::ShortOutput, sounding);
+    let keys = wanted.keys;
+    if out.len() < length_between(*sounding, keys) {
+        return Err(Refusal::ShortOutput);
     }
-    let n = put_between(out, sounding, keys);
-    Step {
-        answer: Answer::Sent(n),
-        keys,
-    }
+    let mut written = Buffer::new(out);
+    put_between(&mut written, *sounding, keys);
+    *sounding = keys;
+    Ok(written.len)
 }

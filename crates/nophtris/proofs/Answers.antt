@@ -1,4 +1,4 @@
--- What the two functions gave, from what the reader and the writer gave; and from the outcome of a writing back to the questions.
+-- What reading and writing gave, from what the reader and the writer gave; and from the outcome of a writing back to the questions.
 -- Assumes nothing.
 use mathlib.Core.Bool.{Bool, true, false, cond, ◌||◌}
 use mathlib.Core.List.{List, ◌++◌, append-nil}
@@ -15,14 +15,16 @@ use Rattle.reader.specs.Reader as reader
 use Rattle.reader.specs.State as reader-state
 use Rattle.reader.specs.declared.Answer.{Answer as Read}
 use Rattle.reader.specs.declared.Reading.{Reading}
-use Rattle.writer.proofs.Answers.{Asked as WriterAsked, Way, asked_first as writer-asked, enough as writer-enough, has, lacks, long_buffer, short as writer-short, way}
+use Rattle.std.specs.Prelude.{Ok, Err}
+use Rattle.writer.proofs.Answers.{Way, has, lacks, long_buffer, way}
 use Rattle.writer.proofs.Puts.{put_whole}
 use Rattle.writer.specs.State.{WriteGave, Put}
 use Rattle.writer.specs.Writer as writer
-use Rattle.writer.specs.Writer.{WriteOutcome, length_of, number_of, refused, write_of}
-use Rattle.writer.specs.declared.Answer.{Answer as Written}
+use Rattle.writer.specs.Writer.{Answer as Written, WriteOutcome, number, refused, write_of}
+use Rattle.writer.specs.declared.Refusal.TheVariants.{ShortBuffer, NoText}
+use Rattle.writer.specs.declared.Refusal.{Refusal}
 use Rattle.nophtris.proofs.Bytes.{chord-length}
-use Rattle.nophtris.specs.Boundary.{answer_to, chord_bytes, four_in, inside, length_after, values_in, write_in}
+use Rattle.nophtris.specs.Boundary.{answer_to, chord_bytes, four_in, inside, values_in, write_in}
 use Rattle.nophtris.specs.State.{GaveRead, GaveWritten}
 
 -- ---- reading
@@ -96,37 +98,49 @@ asked_first room cs = by (ltb room 112) (inside cs) refl refl
 
 -- ---- what the code gave
 
-gave_refused : {o : WriteOutcome} (k : ℕ) (bs : List ℕ) (l : ℕ) → o ≡ refused k → l ≡ length_after (refused k) l → GaveWritten o k bs bs l l
-gave_refused k bs l e z = subst (λ (q : WriteOutcome). GaveWritten q k bs bs l l) (sym e) (record { number = refl; buffer = refl; size = z })
+module _ (cs bs : List ℕ) where
+  pub held_short : length bs < 112 → WriteGave (write_in (length bs) cs) (Err ShortBuffer) bs bs
+  held_short h =
+      subst (λ (o : WriteOutcome). WriteGave o (Err ShortBuffer) bs bs) (sym (short-buffer (length bs) cs h))
+      (record { number = refl; size = refl; buffer = refl })
+
+  module _ (h : 112 ≤ length bs) where
+    pub held_none : four_in cs ≡ none → WriteGave (write_in (length bs) cs) (Err NoText) bs bs
+    held_none e =
+        subst (λ (o : WriteOutcome). WriteGave o (Err NoText) bs bs) (sym (long_buffer_in (length bs) cs h ∙ ap answer_to e))
+        (record { number = refl; size = refl; buffer = refl })
+
+    pub held_some : {f : Four} {r : Written} {bs' : List ℕ} → four_in cs ≡ some f → WriteGave (write_of (length bs) f) r bs bs'
+        → WriteGave (write_in (length bs) cs) r bs bs'
+    held_some {f} {r} {bs'} e g =
+        subst (λ (o : WriteOutcome). WriteGave o r bs bs') (long_buffer (length bs) f h ∙ sym (long_buffer_in (length bs) cs h ∙ ap answer_to e)) g
+
+-- at the boundary a spelling's length is written, and else none
+pub gave_written : {o : WriteOutcome} {bs bs' : List ℕ} {n : ℕ} (l : ℕ) → WriteGave o (Ok n) bs bs' → GaveWritten o 0 bs bs' l n
+gave_written {o} {bs} {bs'} {n} l g =
+    record { number = g.number; buffer = g.buffer; size = λ i. cond (eqb (g.number i) 0) (g.size i) l }
+
+no-length : (e : Refusal) (l : ℕ) → l ≡ cond (eqb (number e) 0) 0 l
+no-length ShortBuffer l = refl
+no-length NoText l = refl
+
+pub gave_unwritten : {o : WriteOutcome} {bs bs' : List ℕ} {n : ℕ} (e : Refusal) (l : ℕ) → n ≡ number e → WriteGave o (Err e) bs bs'
+    → GaveWritten o n bs bs' l l
+gave_unwritten e l k g =
+    record { number = k ∙ g.number; buffer = g.buffer; size = no-length e l ∙ (λ i. cond (eqb (g.number i) 0) (g.size i) l) }
 
 -- the house spelling is short
-few : (room : ℕ) (f : Four) {o : WriteOutcome} → WriterAsked room f o → o.length ≤ 112
-few room f (writer-short h) = omega arith
-few room f (writer-enough h) = by (way f)
+few-of : (f : Four) → (writer.answer_to f).length ≤ 112
+few-of f = by (way f)
   where
     by : {o : WriteOutcome} → Way f o → o.length ≤ 112
     by (has e) = house-length f
     by (lacks e) = omega arith
 
-pub spelled-few : (room : ℕ) (f : Four) {a : Written} {bs bs' : List ℕ} → WriteGave (write_of room f) a bs bs' → length_of a ≤ 112
-spelled-few room f g = subst (λ (n : ℕ). n ≤ 112) (sym g.size) (few room f (writer-asked room f))
-
-module _ (cs bs : List ℕ) (l : ℕ) where
-  pub gave_short : length bs < 112 → GaveWritten (write_in (length bs) cs) 6 bs bs l l
-  gave_short h = gave_refused 6 bs l (short-buffer (length bs) cs h) refl
-
-  module _ (h : 112 ≤ length bs) where
-    pub gave_outside : inside cs ≡ false → GaveWritten (write_in (length bs) cs) 7 bs bs l l
-    gave_outside e = gave_refused 7 bs l (long_buffer_in (length bs) cs h ∙ ap answer_to (holds_none cs e)) refl
-
-    -- the writer's answer is v
-    pub gave_inside : {f : Four} {a : Written} {bs' : List ℕ} (v : Written) → inside cs ≡ true → f ≡ values_in cs → a ≡ v
-        → WriteGave (write_of (length bs) f) a bs bs'
-        → GaveWritten (write_in (length bs) cs) (number_of v) bs bs' l (cond (eqb (number_of v) 0) (length_of v) l)
-    gave_inside {f} {a} {bs'} v e q s g =
-        let o : write_of (length bs) f ≡ write_in (length bs) cs =
-        long_buffer (length bs) f h ∙ ap writer.answer_to q ∙ sym (long_buffer_in (length bs) cs h ∙ ap answer_to (holds cs e)) in
-        let n : number_of v ≡ (write_of (length bs) f).number = ap number_of (sym s) ∙ g.number in
-        let k : length_of v ≡ (write_of (length bs) f).length = ap length_of (sym s) ∙ g.size in
-        subst (λ (x : WriteOutcome). GaveWritten x (number_of v) bs bs' l (cond (eqb (number_of v) 0) (length_of v) l)) o
-        (record { number = n; buffer = g.buffer; size = λ i. cond (eqb (n i) 0) (k i) l })
+pub spelled-few : (room : ℕ) (cs : List ℕ) {n : ℕ} {bs bs' : List ℕ} → WriteGave (write_in room cs) (Ok n) bs bs' → n ≤ 112
+spelled-few room cs g = subst (λ (n : ℕ). n ≤ 112) (sym g.size) (by (asked_first room cs))
+  where
+    by : {o : WriteOutcome} → Asked room cs o → o.length ≤ 112
+    by (short h) = omega arith
+    by (outside h e) = omega arith
+    by (within h e) = few-of (values_in cs)

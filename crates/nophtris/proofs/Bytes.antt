@@ -2,30 +2,24 @@
 -- Assumes nothing.
 use mathlib.Core.Bool.{Bool, true, false, cond, ◌&&◌, ◌||◌}
 use mathlib.Core.List.{List, [], ◌∷◌, ◌++◌}
-use mathlib.Core.Path.{◌≡◌, refl, sym, ap, ◌∙◌}
-use Prim.Native.Nat.{ℕ, zero, suc, ◌+◌, ◌≤◌, ◌<◌, zero-le}
+use mathlib.Core.Path.{◌≡◌, refl, sym, ap, ap₂, ◌∙◌}
+use Prim.Native.Nat.{ℕ, zero, suc, ◌+◌, ◌-◌, ◌≤◌, ◌<◌, zero-le}
 use native.Mathlib.Omega.{arith}
 use lib.Dec.{eqb, leb, ltb}
-use lib.ListN.{get_or-eq_default, drop, drop_of_length-le, get_or, length, length-append, length-drop, replicate, set, take}
-use lib.Seq.{drop-cons, get_or-drop, get_or-take, length-take-le, take-suc, take-suc-set}
-use borrow.Author.Tests.{eqb-false, eqb-true, le-leb, le-ltb, lt-leb, lt-ltb, ltb-true, ltb-false, ne_eqb}
-use Rattle.intervals.proofs.Store.{listed_at}
+use lib.ListN.{drop, get_or, length, length-append, replicate, take, take-append-drop}
+use lib.Seq.{length-take-le}
+use borrow.Author.Tests.{eqb-false, eqb-true, le-leb, leb-true, le-ltb, lt-ltb, ltb-true, ltb-false}
+use Rattle.std.proofs.lemmas.List.{drop-replicate, take-replicate}
+use Rattle.std.proofs.Math.Seq.{take-append_seam, take-append-add}
+use Rattle.std.specs.Prelude.{◌↔◌, EachIndex}
+use Rattle.house_parts.proofs.Tests.{same_answer}
 use Rattle.chord.specs.Chord.{Four}
 use Rattle.intervals.specs.Stored.{listed}
 use Rattle.intervals.specs.Interval.{Set, empty, insert}
 use Rattle.intervals.specs.declared.IntervalList.{IntervalList}
 use Rattle.std.specs.declared.option.Option.TheVariants.{None, Some}
 use Rattle.note.specs.Note.{OptionalNote}
-use Rattle.note.specs.declared.RootModifier.TheVariants.{Natural}
-use Rattle.nophtris.specs.Boundary.{are_bits, chord_bytes, is_alteration, list_bytes, modifier_in, note_bytes, set_bytes}
-
--- ---- a byte that is none of an arm's
-
-pub alteration_none : (a : ℕ) → (a ≡ 0 → ⊥) → (a ≡ 1 → ⊥) → (a ≡ 255 → ⊥) → false ≡ is_alteration a
-alteration_none a x y z = rw (ne_eqb a 0 x, ne_eqb a 1 y, ne_eqb a 255 z)
-
-pub modifier_none : (a : ℕ) → (a ≡ 1 → ⊥) → (a ≡ 255 → ⊥) → Natural ≡ modifier_in a
-modifier_none a y z = rw (ne_eqb a 1 y, ne_eqb a 255 z)
+use Rattle.nophtris.specs.Boundary.{are_bits, chord_bytes, list_bytes, note_bytes, set_bytes}
 
 -- ---- the bytes of a set and of a list: how many, and which
 
@@ -43,6 +37,14 @@ set-from (suc n) i (suc j) s h =
 pub set_at : (s : Set) (j : ℕ) → j < 23 → get_or (set_bytes 23 0 s) j 0 ≡ cond (s j) 1 0
 set_at s j h = let e : 0 + j ≡ j = omega arith in set-from 23 0 j s h ∙ ap (λ (k : ℕ). cond (s k) 1 0) e
 
+-- one number more
+pub set_more : (n i : ℕ) (s : Set) → set_bytes n i s ++ (cond (s (i + n)) 1 0 ∷ []) ≡ set_bytes (suc n) i s
+set_more zero i s = let e : i + 0 ≡ i = omega arith in ap (λ (k : ℕ). cond (s k) 1 0 ∷ []) e
+set_more (suc n) i s =
+    let e : i + suc n ≡ suc i + n = omega arith in
+    ap (λ (k : ℕ). cond (s i) 1 0 ∷ (set_bytes n (suc i) s ++ (cond (s k) 1 0 ∷ []))) e
+    ∙ ap (λ (q : List ℕ). cond (s i) 1 0 ∷ q) (set_more n (suc i) s)
+
 -- the numbers of a list, and zeros up to 23
 abbrev zeros : List ℕ
 zeros = replicate 23 0
@@ -53,26 +55,19 @@ padded d = take 23 (d ++ zeros)
 pub list_length : (d : List ℕ) → length (padded d) ≡ 23
 list_length d = length-take-le 23 (d ++ zeros) (omega (arith, length-append d zeros))
 
-zero-at : (n k : ℕ) (z : ℕ) → get_or (replicate n z) k z ≡ z
-zero-at zero k z = refl
-zero-at (suc n) zero z = refl
-zero-at (suc n) (suc k) z = zero-at n k z
-
-behind : (d : List ℕ) (k : ℕ) → get_or (d ++ zeros) k 0 ≡ get_or d k 0
-behind [] k = zero-at 23 k 0
-behind (x ∷ d) zero = refl
-behind (x ∷ d) (suc k) = behind d k
-
-pub list_at : (d : List ℕ) (j : ℕ) → j < 23 → get_or (padded d) j 0 ≡ get_or d j 0
-list_at d j h = get_or-take 23 (d ++ zeros) j 0 h ∙ behind d j
-
--- below the count the list's number stands in its array; behind it there is none
-pub number_of : (l : IntervalList) (n j : ℕ) → n ≡ length (listed l) → cond (ltb j n) (get_or l.numbers j 0) 0 ≡ get_or (listed l) j 0
-number_of l n j e = go (ltb j n) refl
-  where
-    go : (t : Bool) → ltb j n ≡ t → cond t (get_or l.numbers j 0) 0 ≡ get_or (listed l) j 0
-    go true p = sym (listed_at l j (omega (arith, ltb-true j n p, e)))
-    go false p = sym (get_or-eq_default (listed l) 0 {n = j} (omega (arith, ltb-false j n p, e)))
+-- the first numbers of the array and the last of 23 zeros
+pub list_parts : (l : IntervalList) (n : ℕ) → n ≡ length (listed l) → n ≤ 23
+    → (n ∷ []) ++ (take n l.numbers ++ drop n zeros) ≡ list_bytes (listed l)
+unfolding listed
+list_parts l n e h =
+    let d = listed l in
+    let t : take n l.numbers ≡ d =
+    ap₂ take e (sym (take-append-drop l.len l.numbers)) ∙ take-append_seam d (drop l.len l.numbers)
+    in
+    let m : length d + (23 - n) ≡ 23 = omega (arith, e, h) in
+    let z : drop n zeros ≡ take (23 - n) zeros = drop-replicate n 23 0 ∙ sym (take-replicate (23 - n) 23 0 (omega arith)) in
+    let p : d ++ take (23 - n) zeros ≡ padded d = sym (take-append-add d zeros (23 - n)) ∙ ap (λ (k : ℕ). take k (d ++ zeros)) m in
+    ap₂ (λ (k : ℕ) (q : List ℕ). k ∷ q) e (ap₂ (λ (a b : List ℕ). a ++ b) t z ∙ p)
 
 -- the bytes of a record are 51
 pub note_length : (n : OptionalNote) → length (note_bytes n) ≡ 2
@@ -88,37 +83,24 @@ chord-length f =
     let d = list_bytes f.display in
     omega (arith, note_length f.root, note_length f.bass, set-length 23 0 f.normalized, list_length f.display, length-append a (b ++ (s ++ d)), length-append b (s ++ d), length-append s d)
 
--- ---- bits, one after the other
+-- ---- bits: each byte is at most 1
 
-module _ (bs : List ℕ) (e : length bs ≡ 51) where
-  pub bits-length : length (take 23 (drop 4 bs)) ≡ 23
-  bits-length = length-take-le 23 (drop 4 bs) (omega (arith, e, length-drop 4 bs))
+both : (a b : Bool) → a && b ≡ true → (a ≡ true) × (b ≡ true)
+both true b e = (refl, e)
+both false b e = (e, absurd (false≢true e))
 
-  pub bits_at : (i : ℕ) → i < 23 → get_or (take 23 (drop 4 bs)) i 0 ≡ get_or bs (4 + i) 0
-  bits_at i h = get_or-take 23 (drop 4 bs) i 0 h ∙ get_or-drop 4 bs i 0
+bits-each : (l : List ℕ) → are_bits l ≡ true → EachIndex l (λ k. get_or l k 0 ≤ 1)
+bits-each [] e k h = absurd (omega (arith, h))
+bits-each (x ∷ l) e zero h = leb-true x 1 (both (leb x 1) (are_bits l) e).0
+bits-each (x ∷ l) e (suc k) h = bits-each l (both (leb x 1) (are_bits l) e).1 k (omega (arith, h))
 
-module _ (l : List ℕ) (i : ℕ) where
-  bits-next : i < length l → are_bits (drop i l) ≡ leb (get_or l i 0) 1 && are_bits (drop (i + 1) l)
-  bits-next h =
-      let k : suc i ≡ i + 1 = omega arith in
-      ap are_bits (drop-cons l i 0 h) ∙ ap (λ (j : ℕ). leb (get_or l i 0) 1 && are_bits (drop j l)) k
+each-bits : (l : List ℕ) → EachIndex l (λ k. get_or l k 0 ≤ 1) → are_bits l ≡ true
+each-bits [] v = refl
+each-bits (x ∷ l) v =
+    ap (λ (t : Bool). t && are_bits l) (le-leb x 1 (v 0 (omega arith))) ∙ each-bits l (λ k h. v (suc k) (omega (arith, h)))
 
-  pub no_bit : i < length l → 1 < get_or l i 0 → are_bits (drop i l) ≡ false
-  no_bit h g = bits-next h ∙ ap (λ (t : Bool). t && are_bits (drop (i + 1) l)) (lt-leb (get_or l i 0) 1 g)
-
-  pub one_bit : i < length l → get_or l i 0 ≤ 1 → are_bits (drop i l) ≡ are_bits (drop (i + 1) l)
-  one_bit h g = bits-next h ∙ ap (λ (t : Bool). t && are_bits (drop (i + 1) l)) (le-leb (get_or l i 0) 1 g)
-
-  pub bits-end : length l ≤ i → are_bits (drop i l) ≡ true
-  bits-end h = ap are_bits (drop_of_length-le l h)
-
--- ---- tests, one after the other
-
-pub failed : {a : Bool} (b : Bool) → a ≡ false → false ≡ a && b
-failed b e = sym (ap (λ (t : Bool). t && b) e)
-
-pub passed : {a : Bool} (b : Bool) → a ≡ true → b ≡ a && b
-passed b e = sym (ap (λ (t : Bool). t && b) e)
+pub bits_by : (b : Bool) (l : List ℕ) → (b ≡ true) ↔ EachIndex l (λ k. get_or l k 0 ≤ 1) → b ≡ are_bits l
+bits_by b l h = same_answer b (are_bits l) (λ e. each-bits l (h.0 e)) (λ e. h.1 (bits-each l e))
 
 -- ---- the set of 51 bytes: with the first i right, and one more
 
@@ -163,15 +145,3 @@ inserted s f i v k = go (eqb i k) refl
         ∙ off (f i) (s k)
         ∙ v k
         ∙ ap (λ (t : Bool). t && f k) (further k i (λ q. eqb-false i k e (sym q)))
-
--- ---- the list of 51 bytes: the array after the store at i
-
-pub listed_next : (l t : List ℕ) (i b : ℕ) → i < length l → i < length t → b ≡ get_or t i 0 → take i l ≡ take i t → take (i + 1) (set l i b) ≡ take (i + 1) t
-listed_next l t i b h g e v =
-    let k : suc i ≡ i + 1 = omega arith in
-    ap (λ (j : ℕ). take j (set l i b)) (sym k)
-    ∙ take-suc-set l i b h
-    ∙ ap (λ (q : List ℕ). q ++ (b ∷ [])) v
-    ∙ ap (λ (x : ℕ). take i t ++ (x ∷ [])) e
-    ∙ sym (take-suc t i 0 g)
-    ∙ ap (λ (j : ℕ). take j t) k

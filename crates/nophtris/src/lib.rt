@@ -1,15 +1,16 @@
 // The functions of include/nophtris.h, over bytes; nophtris_c hands them to C. A record is 51 bytes.
 #![tactic(auto)]
 
-ghost use Rattle.std.specs.Prelude.{cond, [], ◌∷◌, ◌≡◌, ◌+◌, ◌≤◌, ◌<◌, eqb, ltb, drop, length, take};
+ghost use Rattle.std.specs.Prelude.{◌≡◌, ◌+◌, ◌≤◌, MatchOption, drop, length, take};
+ghost use Rattle.std.proofs.Math.Option.{none, some};
 ghost use Rattle.chord.specs.Chord.{four_of};
 ghost use Rattle.intervals.specs.Stored.{members, listed};
-ghost use Rattle.intervals.specs.Interval.{insert};
-ghost use Rattle.writer.specs.State.{Put};
+ghost use Rattle.writer.specs.State.{Grew, Put, WriteGave};
+ghost use Rattle.midi.specs.State.{NextGave};
 ghost use Rattle.endings.specs.Endings.{number_of};
 ghost use Rattle.keys.specs.Stored.{keys_bytes};
 ghost use Rattle.keys.specs.Stored as stored;
-ghost use Rattle.nophtris.specs.Boundary.{alteration_byte, are_bits, chord_bytes, inside, is_alteration, is_note, line_number, list_bytes, modifier_in, note_bytes, note_in, set_bytes, values_in};
+ghost use Rattle.nophtris.specs.Boundary.{alteration_byte, are_bits, chord_bytes, four_in, inside, is_alteration, is_note, line_number, list_bytes, modifier_in, next_from, note_bytes, note_in, set_bytes, values_in, write_in};
 ghost use Rattle.nophtris.specs.State.{Bar, Midi, Read, Step, Write};
 
 use bars::Found;
@@ -18,105 +19,63 @@ use intervals::{IntervalList, IntervalSet};
 use keys::Keys;
 use keys::bytes::{byte_of, keys_in};
 use note::{Note, NoteLiteral, RootModifier};
+use writer::buffer::Buffer;
 
-// Writes a byte at n and answers the place behind it.
-fn put(out: &mut [u8], n: usize, byte: u8) -> usize
-    requires { n < length out.old }
-    ensures { Put n result (byte ∷ []) out.old out.new }
-{
-    out[n] = byte;
-    n + 1
-}
+// The letter of a note that is none; and flat, -1, as a byte.
+const NONE: u8 = 255;
 
-// -1, 0 or 1 as a byte.
+const FLAT: u8 = 255;
+
+// -1, 0 or 1 as a byte: the bytes that `modifier` reads, in a table like its own.
 fn alteration(m: RootModifier) -> u8
     ensures { result ≡ alteration_byte m }
 {
     match m {
         RootModifier::Natural => 0,
         RootModifier::Sharp => 1,
-        RootModifier::Flat => 255,
+        RootModifier::Flat => FLAT,
     }
 }
 
-fn put_note(out: &mut [u8], n: usize, note: Option<Note>) -> usize
-    requires { n + 2 ≤ length out.old }
-    ensures { Put n result (note_bytes note) out.old out.new }
+fn put_note(out: &mut Buffer, note: Option<Note>)
+    requires { out.old.len + 2 ≤ length out.old.bytes.now }
+    ensures { Grew out.old out.new (note_bytes note) }
 {
     match note {
-        None => {
-            let m = put(out, n, 255);
-            put(out, m, 0)
-        }
-        Some(x) => {
-            let l = x.literal;
-            let a = x.modifier;
-            let m = put(out, n, l.number());
-            put(out, m, alteration(a))
-        }
+        None => out.put(&[NONE, 0]),
+        Some(x) => out.put(&[x.literal.number(), alteration(x.modifier)]),
     }
 }
 
-fn bit(set: IntervalSet, i: u8) -> u8
-    requires { i < 23 }
-    ensures { result ≡ cond (members set i) 1 0 }
+fn put_set(out: &mut Buffer, set: IntervalSet)
+    requires { out.old.len + 23 ≤ length out.old.bytes.now }
+    ensures { Grew out.old out.new (set_bytes 23 0 (members set)) }
 {
-    if set.contains(i) {
-        return 1;
+    for i in 0..23 {
+        out.put(&[u8::from(set.contains(i))]);
     }
-    0
-}
-
-fn put_set(out: &mut [u8], n: usize, set: IntervalSet) -> usize
-    requires { n + 23 ≤ length out.old }
-    ensures { Put n result (set_bytes 23 0 (members set)) out.old out.new }
-{
-    let mut m = n;
-    let mut i = 0;
-    while i < 23 {
-        m = put(out, m, bit(set, i));
-        i += 1;
-    }
-    m
-}
-
-// The i-th number x of a list of n; 0 behind them.
-fn number_at(x: u8, n: usize, i: usize) -> u8
-    ensures { result ≡ cond (ltb i n) x 0 }
-{
-    if i < n {
-        return x;
-    }
-    0
 }
 
 // The count of the numbers, the numbers, and zeros up to 23.
-fn put_list(out: &mut [u8], n: usize, list: IntervalList) -> usize
-    requires { n + 24 ≤ length out.old }
-    ensures { Put n result (list_bytes (listed list)) out.old out.new }
+fn put_list(out: &mut Buffer, list: IntervalList)
+    requires { out.old.len + 24 ≤ length out.old.bytes.now }
+    ensures { Grew out.old out.new (list_bytes (listed list)) }
 {
     let count = list.count();
-    let mut m = put(out, n, count as u8);
-    let mut i = 0;
-    while i < 23 {
-        m = put(out, m, number_at(list.numbers[i], count, i));
-        i += 1;
-    }
-    m
+    out.put(&[count as u8]);
+    out.put(&list.numbers[..count]);
+    out.put(&[0; 23][count..]);
 }
 
-fn encode(chord: Chord, out: &mut [u8])
-    requires { 51 ≤ length out.old }
-    ensures { Put 0 51 (chord_bytes (four_of chord)) out.old out.new }
+fn encode(chord: Chord, bytes: &mut [u8])
+    requires { 51 ≤ length bytes.old }
+    ensures { Put 0 51 (chord_bytes (four_of chord)) bytes.old bytes.new }
 {
-    let root = chord.root;
-    let bass = chord.bass;
-    let set = chord.normalized;
-    let list = chord.display;
-    let a = put_note(out, 0, root);
-    let b = put_note(out, a, bass);
-    let c = put_set(out, b, set);
-    put_list(out, c, list);
+    let mut out = Buffer::new(bytes);
+    put_note(&mut out, chord.root);
+    put_note(&mut out, chord.bass);
+    put_set(&mut out, chord.normalized);
+    put_list(&mut out, chord.display);
 }
 
 // Reads any bytes. The number is returned, 0 for an accepted text; `count` is written only with 4 and 5, `chord` only with 0.
@@ -124,12 +83,10 @@ pub fn nophtris_read(text: &[u8], errors: &mut [u16], count: &mut u16, chord: &m
     ensures { Read text.now errors.old errors.new count.old count.new
         chord.old chord.new result }
 {
-    let r = reader::read(text, errors);
-    let answer = r.answer;
-    let read = r.chord;
-    match answer {
+    let read = reader::read(text, errors);
+    match read.answer {
         reader::Answer::Accepted => {
-            encode(read, chord);
+            encode(read.chord, chord);
             0
         }
         reader::Answer::ShortList => 1,
@@ -162,17 +119,14 @@ pub fn nophtris_step(
         size.old size.new result }
 {
     let place = bars::place_at(line, *position);
-    let found = place.found;
-    let from = place.from;
-    let to = place.to;
-    match found {
+    match place.found {
         Found::TooLong => 8,
         Found::End => 255,
         Found::Bar => {
             *position = place.next;
-            *start = from;
-            *size = to - from;
-            nophtris_read(&line[from..to], errors, count, chord)
+            *start = place.from;
+            *size = place.to - place.from;
+            nophtris_read(&line[place.from..place.to], errors, count, chord)
         }
     }
 }
@@ -184,8 +138,7 @@ fn number_of(answer: endings::Answer) -> u8
     match answer {
         endings::Answer::TooLong => 8,
         endings::Answer::NoBar => 9,
-        endings::Answer::Body => 0,
-        endings::Answer::Ending => 0,
+        endings::Answer::Body | endings::Answer::Ending => 0,
     }
 }
 
@@ -193,12 +146,7 @@ fn number_of(answer: endings::Answer) -> u8
 fn line_number(answer: endings::Answer) -> u8
     ensures { result ≡ line_number answer }
 {
-    match answer {
-        endings::Answer::TooLong => 0,
-        endings::Answer::NoBar => 0,
-        endings::Answer::Body => 0,
-        endings::Answer::Ending => 1,
-    }
+    u8::from(matches!(answer, endings::Answer::Ending))
 }
 
 // Where the bar of any number lies in any body and any ending. With 0 the line that has it, its place in that line and its length are
@@ -215,12 +163,11 @@ pub fn nophtris_bar<'a>(
         start.new size.old size.new result }
 {
     let spot = endings::spot_of(body, ending, number);
-    let answer = spot.answer;
-    let said = number_of(answer);
+    let said = number_of(spot.answer);
     if said != 0 {
         return said;
     }
-    *line = line_number(answer);
+    *line = line_number(spot.answer);
     *start = spot.from;
     *size = spot.to - spot.from;
     0
@@ -232,7 +179,7 @@ fn modifier(a: u8) -> RootModifier
 {
     match a {
         1 => RootModifier::Sharp,
-        255 => RootModifier::Flat,
+        FLAT => RootModifier::Flat,
         _ => RootModifier::Natural,
     }
 }
@@ -240,19 +187,14 @@ fn modifier(a: u8) -> RootModifier
 fn is_alteration(a: u8) -> bool
     ensures { result ≡ is_alteration a }
 {
-    match a {
-        0 => true,
-        1 => true,
-        255 => true,
-        _ => false,
-    }
+    matches!(a, 0 | 1 | FLAT)
 }
 
-// The note of two bytes; none where the letter is 255.
+// The note of two bytes; none where the letter is that of none.
 fn note(letter: u8, alteration: u8) -> Option<Note>
     ensures { result ≡ note_in letter alteration }
 {
-    if letter == 255 {
+    if letter == NONE {
         return None;
     }
     Some(Note {
@@ -265,24 +207,10 @@ fn note(letter: u8, alteration: u8) -> Option<Note>
 fn is_note(letter: u8, alteration: u8) -> bool
     ensures { result ≡ is_note letter alteration }
 {
-    if letter == 255 {
+    if letter == NONE {
         return alteration == 0;
     }
-    if letter < 7 {
-        return is_alteration(alteration);
-    }
-    false
-}
-
-// The set with i too, if its byte is 1.
-fn with_member(set: IntervalSet, i: u8, byte: u8) -> IntervalSet
-    requires { i < 23 }
-    ensures { members result ≡ cond (eqb byte 1) (insert (members set) i) (members set) }
-{
-    if byte == 1 {
-        return set.insert(i);
-    }
-    set
+    letter < 7 && is_alteration(alteration)
 }
 
 // The set whose members have 1. The bytes come as a slice, since the proof is told the length of an array only where it becomes one.
@@ -291,34 +219,25 @@ fn set_in(bytes: &[u8]) -> IntervalSet
     ensures { members result ≡ (values_in bytes.now).normalized }
 {
     let mut set = IntervalSet::new();
-    let mut i = 0;
-    while i < 23 {
-        set = with_member(set, i as u8, bytes[4 + i]);
-        i += 1;
+    for (i, byte) in bytes[4..27].iter().enumerate() {
+        if *byte == 1 {
+            set = set.insert(i as u8);
+        }
     }
     set
 }
 
-fn wide(byte: u8) -> usize
-    ensures { result ≡ byte }
-{
-    byte as usize
-}
-
 // The list of the count and the 23 numbers behind it.
+#[tactic(auto, unfolding(intervals::specs::Stored::listed, crate::specs::Boundary::values_in))]
 fn list_in(bytes: &[u8]) -> IntervalList
     requires { length bytes.now ≡ 51 }
     ensures { listed result ≡ (values_in bytes.now).display }
 {
     let mut numbers = [0; 23];
-    let mut i = 0;
-    while i < 23 {
-        numbers[i] = bytes[28 + i];
-        i += 1;
-    }
+    numbers.copy_from_slice(&bytes[28..51]);
     IntervalList {
         numbers,
-        len: wide(bytes[27]),
+        len: usize::from(bytes[27]),
     }
 }
 
@@ -327,41 +246,47 @@ fn is_set(bytes: &[u8]) -> bool
     requires { length bytes.now ≡ 51 }
     ensures { result ≡ are_bits (take 23 (drop 4 bytes.now)) }
 {
-    let mut i = 0;
-    while i < 23 {
-        if 1 < bytes[4 + i] {
-            return false;
-        }
-        i += 1;
-    }
-    true
+    bytes[4..27].iter().all(|b| *b <= 1)
 }
 
+#[tactic(auto, unfolding(crate::specs::Boundary::inside))]
 fn is_inside(bytes: &[u8]) -> bool
     requires { length bytes.now ≡ 51 }
     ensures { result ≡ inside bytes.now }
 {
-    if !is_note(bytes[0], bytes[1]) {
-        return false;
-    }
-    if !is_note(bytes[2], bytes[3]) {
-        return false;
-    }
-    if 23 < bytes[27] {
-        return false;
-    }
-    is_set(bytes)
+    is_note(bytes[0], bytes[1])
+        && is_note(bytes[2], bytes[3])
+        && bytes[27] <= 23
+        && is_set(bytes)
 }
 
-fn decode(bytes: &[u8]) -> Chord
+// The record that the bytes hold, if they hold one.
+#[tactic(auto, unfolding(crate::specs::Boundary::four_in, crate::specs::Boundary::values_in))]
+fn decode(bytes: &[u8]) -> Option<Chord>
     requires { length bytes.now ≡ 51 }
-    ensures { four_of result ≡ values_in bytes.now }
+    ensures { MatchOption result (four_in bytes.now ≡ none) (λ c. four_in bytes.now ≡ some (four_of c)) }
 {
-    Chord {
+    if !is_inside(bytes) {
+        return None;
+    }
+    Some(Chord {
         root: note(bytes[0], bytes[1]),
         bass: note(bytes[2], bytes[3]),
         normalized: set_in(bytes),
         display: list_in(bytes),
+    })
+}
+
+// Writes the record that the bytes hold; that there is none is asked after the room.
+fn write_held(chord: &[u8; 51], buffer: &mut [u8]) -> Result<usize, writer::Refusal>
+    ensures { WriteGave (write_in (length buffer.old) chord.now) result buffer.old buffer.new }
+{
+    if buffer.len() < 112 {
+        return Err(writer::Refusal::ShortBuffer);
+    }
+    match decode(chord) {
+        None => Err(writer::Refusal::NoText),
+        Some(record) => writer::write(record, buffer),
     }
 }
 
@@ -369,19 +294,12 @@ fn decode(bytes: &[u8]) -> Chord
 pub fn nophtris_write(chord: &[u8; 51], buffer: &mut [u8], size: &mut u16) -> u8
     ensures { Write chord.now buffer.old buffer.new size.old size.new result }
 {
-    if buffer.len() < 112 {
-        return 6;
-    }
-    if !is_inside(chord) {
-        return 7;
-    }
-    match writer::write(decode(chord), buffer) {
-        writer::Answer::Spelled(n) => {
+    match write_held(chord, buffer) {
+        Ok(n) => {
             *size = n as u16;
             0
         }
-        writer::Answer::ShortBuffer => 6,
-        writer::Answer::NoText => 7,
+        Err(unwritten) => u8::from(unwritten),
     }
 }
 
@@ -390,9 +308,24 @@ fn put_sounding(out: &mut [u8], keys: Keys)
     requires { length out.old ≡ 16 }
     ensures { out.new ≡ keys_bytes (stored.members keys) }
 {
-    let mut n = 0;
-    while n < 16 {
-        n = put(out, n, byte_of(keys, n));
+    for (i, byte) in out.iter_mut().enumerate() {
+        *byte = byte_of(keys, i);
+    }
+}
+
+// Goes from the keys that sound to the record that the bytes hold.
+fn next_held(
+    sounding: &mut Keys,
+    base: u8,
+    chord: &[u8; 51],
+    out: &mut [u8],
+) -> Result<usize, midi::Refusal>
+    ensures { NextGave (next_from (length out.old) (stored.members sounding.old) base (four_in chord.now))
+        (record { answer = result; keys = sounding.new }) out.old out.new }
+{
+    match decode(chord) {
+        None => Err(midi::Refusal::NoText),
+        Some(record) => midi::next(sounding, base, record, out),
     }
 }
 
@@ -408,20 +341,13 @@ pub fn nophtris_midi(
     ensures { Midi sounding.old sounding.new base chord.now out.old out.new
         size.old size.new result }
 {
-    if !is_inside(chord) {
-        return 7;
-    }
-    let step = midi::next(keys_in(sounding), base, decode(chord), out);
-    let answer = step.answer;
-    let keys = step.keys;
-    match answer {
-        midi::Answer::Sent(n) => {
+    let mut keys = keys_in(sounding);
+    match next_held(&mut keys, base, chord, out) {
+        Ok(n) => {
             put_sounding(sounding, keys);
             *size = n;
             0
         }
-        midi::Answer::NoText => 7,
-        midi::Answer::OutsideKeys => 10,
-        midi::Answer::ShortOutput => 11,
+        Err(refusal) => u8::from(refusal),
     }
 }

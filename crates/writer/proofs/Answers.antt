@@ -10,6 +10,7 @@ use lib.Dec.{ltb}
 use lib.ListN.{length}
 use borrow.Author.Tests.{lt-ltb, le-ltb, ltb-false, ltb-true}
 use Rattle.intervals.proofs.Whole.{members_narrow}
+use Rattle.std.specs.Prelude.{Ok, Err}
 use Rattle.chord.specs.Chord.{Four, four_of}
 use Rattle.chord.specs.declared.Chord.{Chord}
 use Rattle.std.specs.declared.option.Option.TheVariants.{None, Some}
@@ -22,9 +23,8 @@ use Rattle.house_text.proofs.Realized.{some-text}
 use Rattle.house_text.specs.Spelling.{house, house_by, spell}
 use Rattle.writer.proofs.Puts.{put_whole}
 use Rattle.writer.specs.State.{WriteGave, Put}
-use Rattle.writer.specs.Writer.{HasText, WriteOutcome, answer_to, length_of, number_of, refused, spelled, write_of}
-use Rattle.writer.specs.declared.Answer.TheVariants.{Spelled, ShortBuffer, NoText}
-use Rattle.writer.specs.declared.Answer.{Answer}
+use Rattle.writer.specs.Writer.{Answer, HasText, WriteOutcome, answer_to, length_of, number_of, refused, spelled, write_of}
+use Rattle.writer.specs.declared.Refusal.TheVariants.{ShortBuffer, NoText}
 
 -- ---- the test is the question
 
@@ -97,15 +97,15 @@ gave_none : {o : WriteOutcome} {k : ℕ} (r : Answer) (bs : List ℕ) → o ≡ 
 gave_none r bs e n l = subst (λ (o : WriteOutcome). WriteGave o r bs bs) (sym e) (record { number = n; size = l; buffer = refl })
 
 module _ (f : Four) (bs : List ℕ) where
-  pub gave_short : length bs < 112 → WriteGave (write_of (length bs) f) ShortBuffer bs bs
-  gave_short h = gave_none ShortBuffer bs (short-buffer (length bs) f h) refl refl
+  pub gave_short : length bs < 112 → WriteGave (write_of (length bs) f) (Err ShortBuffer) bs bs
+  gave_short h = gave_none (Err ShortBuffer) bs (short-buffer (length bs) f h) refl refl
 
   module _ (h : 112 ≤ length bs) where
-    pub gave_no_text : realizable f ≡ false → WriteGave (write_of (length bs) f) NoText bs bs
-    gave_no_text e = gave_none NoText bs (long_buffer (length bs) f h ∙ answered f false e) refl refl
+    pub gave_no_text : realizable f ≡ false → WriteGave (write_of (length bs) f) (Err NoText) bs bs
+    gave_no_text e = gave_none (Err NoText) bs (long_buffer (length bs) f h ∙ answered f false e) refl refl
 
-    pub gave_spelled : {r : ℕ} {bs' : List ℕ} → realizable f ≡ true → Put 0 r (house f) bs bs' → WriteGave (write_of (length bs) f) (Spelled r) bs bs'
+    pub gave_spelled : {r : ℕ} {bs' : List ℕ} → realizable f ≡ true → Put 0 r (house f) bs bs' → WriteGave (write_of (length bs) f) (Ok r) bs bs'
     gave_spelled {r} {bs'} e w =
         let k : r ≡ length (house f) = omega (arith, w.count) in
-        subst (λ (o : WriteOutcome). WriteGave o (Spelled r) bs bs') (sym (long_buffer (length bs) f h ∙ answered f true e))
+        subst (λ (o : WriteOutcome). WriteGave o (Ok r) bs bs') (sym (long_buffer (length bs) f h ∙ answered f true e))
         (record { number = refl; size = k; buffer = put_whole w })

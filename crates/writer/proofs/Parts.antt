@@ -1,13 +1,12 @@
--- The texts of the parts: the lent tables hold them row by row, the parts are written one by one in their order and then the bass, and
+-- The texts of the parts: the parts are written one by one in their order and then the bass, and
 -- there is room for them in 112 bytes.
 -- Assumes nothing.
-use mathlib.Core.Bool.{Bool, true, false, ◌&&◌, cond}
-use mathlib.Core.List.{List, [], ◌∷◌, ◌++◌, map, append_assoc, append-nil}
+use mathlib.Core.Bool.{Bool, true, false, cond}
+use mathlib.Core.List.{List, [], ◌∷◌, ◌++◌, append_assoc, append-nil}
 use mathlib.Core.Path.{◌≡◌, refl, sym, ap, ◌∙◌}
 use Prim.Native.Nat.{ℕ, zero, suc, ◌+◌, ◌≤◌, ◌<◌}
 use native.Mathlib.Omega.{arith}
-use lib.Dec.{T, leb, leb→le}
-use lib.ListN.{length, get_or, take, replicate, length-append}
+use lib.ListN.{length, get_or, take, length-append}
 use lib.Seq.{get_or-take, length-take-le, take-suc}
 use Rattle.intervals.specs.Interval.{Set}
 use Rattle.note.specs.declared.Note.{Note}
@@ -20,65 +19,7 @@ use Rattle.house_parts.specs.declared.kind.SusKind.{SusKind}
 use Rattle.lexer.specs.Text.{ascii}
 use Rattle.house_text.proofs.Length.{length-spelled}
 use Rattle.house_text.specs.Spelling.{note_text, spell, written}
-use Rattle.writer.specs.State.{Tables, bass_text, part_text, text_at, texts23, written23}
-
--- The tables.
-
-abbrev padded : List ℕ → List ℕ
-padded t = take 8 (t ++ replicate 8 0)
-
-at_map : {A : Type 0} (f : List ℕ → A) (l : List (List ℕ)) (i : ℕ) (e : A) → i < length l → get_or (map f l) i e ≡ f (get_or l i [])
-at_map f [] i e h = absurd (omega arith)
-at_map f (t ∷ l) zero e h = refl
-at_map f (t ∷ l) (suc i) e h = at_map f l i e (omega arith)
-
-zeros : (n j : ℕ) → ◌≡◌ {A = ℕ} (get_or (replicate n 0) j 0) 0
-zeros zero j = refl
-zeros (suc n) zero = refl
-zeros (suc n) (suc j) = zeros n j
-
-before_zeros : (l : List ℕ) (n j : ℕ) → get_or (l ++ replicate n 0) j 0 ≡ get_or l j 0
-before_zeros [] n j = zeros n j
-before_zeros (x ∷ l) n zero = refl
-before_zeros (x ∷ l) n (suc j) = before_zeros l n j
-
-fits : List (List ℕ) → Bool
-fits [] = true
-fits (t ∷ ts) = leb (length t) 8 && fits ts
-
-left : (a b : Bool) → T (a && b) → T a
-left true b t = tt
-left false b t = t
-
-right : (a b : Bool) → T (a && b) → T b
-right true b t = t
-right false b t = absurd t
-
-fits_at : (l : List (List ℕ)) → T (fits l) → (i : ℕ) → i < length l → length (get_or l i []) ≤ 8
-unfolding fits
-fits_at [] t i h = absurd (omega arith)
-fits_at (w ∷ l) t zero h = leb→le _ _ (left (leb (length w) 8) (fits l) t)
-fits_at (w ∷ l) t (suc i) h = fits_at l (right (leb (length w) 8) (fits l) t) i (omega arith)
-
--- texts of at most eight bytes, by computation
-texts_fit : T (fits texts23)
-unfolding fits
-texts_fit = tt
-
-module _ (i : ℕ) (h : i < 23) where
-  pub text_fits : length (text_at i) ≤ 8
-  text_fits = fits_at texts23 texts_fit i h
-
-  -- what the lent tables say of the text
-  pub size_is : {ts : List (List ℕ)} {ns : List ℕ} → Tables ts ns → get_or ns i 0 ≡ length (text_at i)
-  size_is w = ap (λ (l : List ℕ). get_or l i 0) w.sizes ∙ at_map length texts23 i 0 h
-
-  pub byte_is : {ts : List (List ℕ)} {ns : List ℕ} → Tables ts ns → (j : ℕ) → j < length (text_at i) → get_or (get_or ts i []) j 0 ≡ get_or (text_at i) j 0
-  byte_is w j k =
-      ap (λ (l : List (List ℕ)). get_or (get_or l i []) j 0) w.rows
-      ∙ ap (λ (l : List ℕ). get_or l j 0) (at_map padded texts23 i [] h)
-      ∙ get_or-take 8 (text_at i ++ replicate 8 0) j 0 (omega (arith, text_fits))
-      ∙ before_zeros (text_at i) 8 j
+use Rattle.writer.specs.State.{bass_text, part_text, text_at, texts23, written23}
 
 -- Any parts with their texts.
 

@@ -1,13 +1,14 @@
--- Bytes written behind the first n of a buffer: none, one, some after others, and a text byte by byte.
+-- Bytes written behind the first n of a buffer: none, one, a run, some after others, and a text byte by byte.
 -- Assumes nothing.
 use mathlib.Core.List.{List, [], ◌∷◌, ◌++◌, append_assoc, append-nil}
 use mathlib.Core.Path.{◌≡◌, refl, sym, ap, ◌∙◌, subst}
 use Prim.Native.Nat.{ℕ, suc, ◌+◌, ◌-◌, ◌≤◌, ◌<◌}
 use native.Mathlib.Omega.{arith}
 use lib.ListN.{length, take, drop, get_or, set, length-append, length-drop, take-append-drop}
-use lib.Seq.{drop-set-lt, length-take-le, take-suc, take-suc-set}
+use lib.Seq.{drop-set-lt, drop_at, length-take-le, take_at, take-suc, take-suc-set}
 use Rattle.expression.proofs.Wrote.{later}
-use Rattle.writer.specs.State.{Put}
+use Rattle.writer.specs.State.{Grew, Put}
+use Rattle.writer.specs.declared.buffer.Buffer.{Buffer}
 
 -- nothing was written
 pub put-none : (n : ℕ) (bs : List ℕ) → Put n n [] bs bs
@@ -23,6 +24,18 @@ put_one n b bs h =
       count = omega arith;
     }
 
+-- a run of bytes was
+pub put_run : (n : ℕ) (t bs bs' : List ℕ) → n + length t ≤ length bs → bs' ≡ take n bs ++ t ++ drop (n + length t) bs
+    → Put n (n + length t) t bs bs'
+put_run n t bs bs' h e =
+    let j : length (take n bs) ≡ n = length-take-le n bs (omega arith) in
+    let k : length (take n bs ++ t) ≡ n + length t = omega (arith, j, length-append (take n bs) t) in
+    record {
+      list = ap (take (n + length t)) e ∙ take_at (take n bs ++ t) (drop (n + length t) bs) (n + length t) k;
+      rest = ap (drop (n + length t)) e ∙ drop_at (take n bs ++ t) (drop (n + length t) bs) (n + length t) k;
+      count = refl;
+    }
+
 -- some after others
 pub put_then : {n m r : ℕ} {a b : List ℕ} {bs bs' bs'' : List ℕ} → Put n m a bs bs' → Put m r b bs' bs'' → Put n r (a ++ b) bs bs''
 put_then {n} {m} {r} {a} {b} {bs} {bs'} {bs''} v w =
@@ -35,6 +48,11 @@ put_then {n} {m} {r} {a} {b} {bs} {bs'} {bs''} v w =
 -- the same bytes by another name
 pub put_as : {n r : ℕ} {a b : List ℕ} {bs bs' : List ℕ} → a ≡ b → Put n r a bs bs' → Put n r b bs bs'
 put_as {n} {r} {a} {b} {bs} {bs'} e w = subst (λ (q : List ℕ). Put n r q bs bs') e w
+
+-- from the same place in the same buffer, by other names
+pub put_from : {n m r : ℕ} {a bs cs bs' : List ℕ} → n ≡ m → bs ≡ cs → Put n r a bs bs' → Put m r a cs bs'
+put_from {n} {m} {r} {a} {bs} {cs} {bs'} e f w =
+    subst (λ (j : ℕ). Put j r a cs bs') e (subst (λ (q : List ℕ). Put n r a q bs') f w)
 
 -- the buffer keeps its length
 pub put-length : {n r : ℕ} {a : List ℕ} {bs bs' : List ℕ} → Put n r a bs bs' → r ≤ length bs → length bs' ≡ length bs
@@ -59,3 +77,13 @@ put_whole {r} {t} {bs} {bs'} w =
     ∙ ap (λ (q : List ℕ). q ++ drop r bs') w.list
     ∙ ap (λ (q : List ℕ). t ++ q) w.rest
     ∙ ap (λ (i : ℕ). t ++ drop i bs) k
+
+-- the same of a lent buffer
+pub grew_none : (a : Buffer) → Grew a a []
+grew_none a = record { put = put-none a.len a.bytes.now; size = refl; place = refl }
+
+pub grew_then : {a b c : Buffer} {s t : List ℕ} → Grew a b s → Grew b c t → Grew a c (s ++ t)
+grew_then v w = record { put = put_then v.put w.put; size = w.size ∙ v.size; place = w.place ∙ v.place }
+
+pub grew_as : {a b : Buffer} {s t : List ℕ} → s ≡ t → Grew a b s → Grew a b t
+grew_as e v = record { put = put_as e v.put; size = v.size; place = v.place }

@@ -1,5 +1,5 @@
 -- What the code gave: the answer by its number and length and the whole lent buffer, as an outcome says; and what a part of it writes.
-use Rattle.std.specs.Prelude.{cond, List, [], ◌++◌, map, ◌≡◌, ℕ, ◌+◌, drop, get_or, length, replicate, take}
+use Rattle.std.specs.Prelude.{cond, List, [], ◌++◌, ◌≡◌, ℕ, ◌+◌, drop, get_or, length, take}
 use Rattle.chord.specs.Chord.{four_of}
 use Rattle.intervals.specs.Interval.{Set}
 use Rattle.chord.specs.declared.Chord.{Chord}
@@ -9,8 +9,8 @@ use Rattle.house_parts.specs.House.{condition_at, is_some, note_or_c, parts}
 use Rattle.house_parts.specs.declared.kind.SusKind.{SusKind}
 use Rattle.lexer.specs.Text.{ascii}
 use Rattle.house_text.specs.Spelling.{note_text, texts, written}
-use Rattle.writer.specs.Writer.{WriteOutcome, length_of, number_of, write_of}
-use Rattle.writer.specs.declared.Answer.{Answer}
+use Rattle.writer.specs.declared.buffer.Buffer.{Buffer}
+use Rattle.writer.specs.Writer.{Answer, WriteOutcome, length_of, number_of, write_of}
 
 pub record WriteGave (o : WriteOutcome) (r : Answer) (bs bs' : List ℕ) : Type 0 where
   pub number : number_of r ≡ o.number
@@ -29,17 +29,18 @@ pub record Put (n r : ℕ) (more : List ℕ) (bs bs' : List ℕ) : Type 0 where
   pub rest : drop r bs' ≡ drop r bs
   pub count : r ≡ n + length more
 
+-- `more` was written behind what was written to a lent buffer; it is the same buffer, as long as before
+pub record Grew (a b : Buffer) (more : List ℕ) : Type 0 where
+  pub put : Put a.len b.len more a.bytes.now b.bytes.now
+  pub size : length b.bytes.now ≡ length a.bytes.now
+  pub place : b.bytes.ghost_name ≡ a.bytes.ghost_name
+
 -- the texts of the parts but for the bass
 abbrev pub texts23 : List (List ℕ)
 texts23 = take 23 (texts None)
 
 abbrev pub text_at : ℕ → List ℕ
 text_at i = get_or texts23 i []
-
--- the lent tables hold them, as rows of eight bytes with a length
-pub record Tables (ts : List (List ℕ)) (ns : List ℕ) : Type 0 where
-  pub rows : ts ≡ map (λ (t : List ℕ). take 8 (t ++ replicate 8 0)) texts23
-  pub sizes : ns ≡ map length texts23
 
 -- what is written of the i-th part
 unfoldable pub part_text : Set → SusKind → ℕ → List ℕ

@@ -1,22 +1,29 @@
 -- Writing a record: the two questions of document 01, in their order, over the definitions of the layers.
-use Rattle.std.specs.Prelude.{cond, List, [], ℕ, ltb, length}
+use Rattle.std.specs.Prelude.{Result, Ok, Err, cond, List, [], ℕ, ltb, length}
 use Rattle.chord.specs.Chord.{Four}
 use Rattle.house_parts.specs.Question.{realizable}
 use Rattle.house_text.specs.Spelling.{house}
 use Rattle.reader.specs.Reader.{IsAccepted}
-use Rattle.writer.specs.declared.Answer.TheVariants.{Spelled, ShortBuffer, NoText}
-use Rattle.writer.specs.declared.Answer.{Answer}
+use Rattle.writer.specs.declared.Refusal.TheVariants.{ShortBuffer, NoText}
+use Rattle.writer.specs.declared.Refusal.{Refusal}
+
+-- the answer to a record: the length of its spelling, or why there is none
+abbrev pub Answer : Type 0
+Answer = Result ℕ Refusal
+
+-- the paper's number of a refusal
+abbrev pub number : Refusal → ℕ
+number ShortBuffer = 6
+number NoText = 7
 
 -- the paper's number of an answer, 0 for a record that is written, and the length that it carries
 abbrev pub number_of : Answer → ℕ
-number_of (Spelled n) = 0
-number_of ShortBuffer = 6
-number_of NoText = 7
+number_of (Ok n) = 0
+number_of (Err e) = number e
 
 abbrev pub length_of : Answer → ℕ
-length_of (Spelled n) = n
-length_of ShortBuffer = 0
-length_of NoText = 0
+length_of (Ok n) = n
+length_of (Err e) = 0
 
 -- what writing gives: the paper's number, the length, and what the lent buffer begins with after it
 pub record WriteOutcome : Type 0 where

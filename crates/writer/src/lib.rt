@@ -5,22 +5,33 @@ ghost use Rattle.std.specs.Prelude.{true, ◌↔◌, ◌≡◌, ◌≤◌, lengt
 ghost use Rattle.chord.specs.Chord.{four_of};
 ghost use Rattle.house_text.specs.Spelling.{house};
 ghost use Rattle.writer.specs.State.{Put, Written};
-ghost use Rattle.writer.specs.Writer.{HasText};
+ghost use Rattle.writer.specs.Writer.{HasText, number};
 
 use chord::Chord;
-use house_parts::kind::kind_in;
 use house_parts::question::is_realizable;
 use note::Note;
 use spelling::put_spelling;
 
+pub mod buffer;
 mod spelling;
 
-// The answer to a record; an accepted one's carries the length of its spelling.
-#[derive(Clone, Copy)]
-pub enum Answer {
-    Spelled(usize),
+// Why a record is not written.
+#[derive(Clone, Copy, PartialEq, Eq)]
+pub enum Refusal {
     ShortBuffer,
     NoText,
+}
+
+// The paper's number.
+impl From<Refusal> for u8 {
+    ghost from_gives = { λ e n. n ≡ number e };
+
+    fn from(refusal: Refusal) -> u8 {
+        match refusal {
+            Refusal::ShortBuffer => 6,
+            Refusal::NoText => 7,
+        }
+    }
 }
 
 // Has some accepted text exactly the record's four?
@@ -35,26 +46,22 @@ fn spell(chord: Chord, buffer: &mut [u8]) -> usize
     requires { 112 ≤ length buffer.old }
     ensures { Put 0 result (house (four_of chord)) buffer.old buffer.new }
 {
-    let root = chord.root;
-    let bass = chord.bass;
-    let set = chord.normalized;
-    let list = chord.display;
-    match root {
+    match chord.root {
         None => 0,
-        Some(note) => put_spelling(buffer, note, bass, set, kind_in(set, list)),
+        Some(root) => put_spelling(buffer, root, chord),
     }
 }
 
-// Writes any record, with any lent buffer. The spelling fills its own bytes, from the first on; all else in the buffer is untouched.
-pub fn write(chord: Chord, buffer: &mut [u8]) -> Answer
+// Writes any record, with any lent buffer. The spelling fills its own bytes, from the first on, and its length is returned; all else in the
+// buffer is untouched, and all of it after a refusal.
+pub fn write(chord: Chord, buffer: &mut [u8]) -> Result<usize, Refusal>
     ensures { Written chord buffer.old buffer.new result }
 {
     if buffer.len() < 112 {
-        return Answer::ShortBuffer;
+        return Err(Refusal::ShortBuffer);
     }
     if !has_text(chord) {
-        return Answer::NoText;
+        return Err(Refusal::NoText);
     }
-    let n = spell(chord, buffer);
-    Answer::Spelled(n)
+    Ok(spell(chord, buffer))
 }

@@ -1,7 +1,7 @@
 -- The code asks the definition's questions in its order.
 -- Assumes nothing.
-use mathlib.Core.Bool.{true, false}
-use mathlib.Core.Path.{◌≡◌, refl, sym, ap, ◌∙◌}
+use mathlib.Core.Bool.{false}
+use mathlib.Core.Path.{◌≡◌, sym, ap, ◌∙◌}
 use Prim.Native.Nat.{◌≤◌, ◌<◌}
 use native.Mathlib.Omega.{arith}
 use lib.ListN.{length}
@@ -12,56 +12,63 @@ use Rattle.keys.specs.Keys.{keys_of, outside, wants}
 use Rattle.keys.specs.Stored.{members}
 use Rattle.midi.proofs.Answers.{gave_refused, gave_sent, next-no_text, next-outside, next-sent, next-short}
 use Rattle.midi.specs.Midi.{between}
-use Rattle.midi.specs.declared.Answer.TheVariants.{NoText, OutsideKeys, ShortOutput}
+use Rattle.midi.specs.declared.Refusal.TheVariants.{NoText, OutsideKeys, ShortOutput}
 use Rattle.writer.proofs.Answers.{is_test, negated}
-use Rattle.writer.proofs.Puts.{put_as}
+use Rattle.writer.proofs.Puts.{put_as, put_from}
 use Rattle.midi.proofs.next.Goals as goal
 
 pub returns-then-not-has_text : goal.returns-then-not-has_text
 returns-then-not-has_text c =
     let a = c.args in
-    let s = members a.sounding in
+    let s = members a.sounding.now in
     let t = c.has_text in
     let e = is_test a.chord t.result t.ensures ∙ negated _ _ c.if-not-has_text.true-raw in
-    gave_refused NoText a.sounding a.out.now c.refused.ensures (next-no_text _ s a.base (four_of a.chord) e) refl refl
+    gave_refused NoText a.sounding.now a.out.now (next-no_text _ s a.base (four_of a.chord) e)
 
-pub returns-then-w : goal.returns-then-w
-returns-then-w c =
+pub returns-then-wanted : goal.returns-then-wanted
+returns-then-wanted c =
     let a = c.args in
-    let s = members a.sounding in
+    let s = members a.sounding.now in
     let t = c.has_text in
     let e = is_test a.chord t.result t.ensures ∙ negated _ _ c.if-not-has_text.false-raw in
-    let o = sym c.keys_of-w.ensures.others ∙ c.if-w.true in
-    gave_refused OutsideKeys a.sounding a.out.now c.refused-then-w.ensures
-    (next-outside _ s a.base (four_of a.chord) e o) refl refl
+    let o = sym c.keys_of-wanted.ensures.others ∙ c.if-wanted.true in
+    gave_refused OutsideKeys a.sounding.now a.out.now (next-outside _ s a.base (four_of a.chord) e o)
 
 pub returns-then-out-length_between : goal.returns-then-out-length_between
 returns-then-out-length_between c =
     let a = c.args in
-    let s = members a.sounding in
+    let s = members a.sounding.now in
     let f = four_of a.chord in
     let t = c.has_text in
-    let w = c.keys_of-w.ensures in
+    let w = c.keys_of-wanted.ensures in
     let e = is_test a.chord t.result t.ensures ∙ negated _ _ c.if-not-has_text.false-raw in
-    let o : outside (keys_of a.base f) ≡ false = sym w.others ∙ c.if-w.false in
+    let o : outside (keys_of a.base f) ≡ false = sym w.others ∙ c.if-wanted.false in
     let l = ap (λ (u : Set). length (between s u)) (same_set (keys_of a.base f) w o) in
     let h : length a.out.now < length (between s (wants (keys_of a.base f))) =
     omega (arith, c.if-out-length_between.true, c.length_between.ensures, l)
     in
-    gave_refused ShortOutput a.sounding a.out.now c.refused-then-out-length_between.ensures (next-short _ s a.base f e o h) refl refl
+    gave_refused ShortOutput a.sounding.now a.out.now (next-short _ s a.base f e o h)
 
 pub returns : goal.returns
 returns c =
     let a = c.args in
-    let s = members a.sounding in
+    let s = members a.sounding.now in
     let f = four_of a.chord in
     let t = c.has_text in
-    let w = c.keys_of-w.ensures in
+    let w = c.keys_of-wanted.ensures in
     let e = is_test a.chord t.result t.ensures ∙ negated _ _ c.if-not-has_text.false-raw in
-    let o : outside (keys_of a.base f) ≡ false = sym w.others ∙ c.if-w.false in
+    let o : outside (keys_of a.base f) ≡ false = sym w.others ∙ c.if-wanted.false in
     let q = same_set (keys_of a.base f) w o in
     let l = ap (λ (u : Set). length (between s u)) q in
     let h : length (between s (wants (keys_of a.base f))) ≤ length a.out.now =
     omega (arith, c.if-out-length_between.false, c.length_between.ensures, l)
     in
-    gave_sent _ (next-sent _ s a.base f e o h) q (put_as (ap (between s) q) c.put_between-n.ensures)
+    let b = c.new-written.ensures in
+    let g = c.put_between.ensures in
+    gave_sent _ (next-sent _ s a.base f e o h) q
+    (put_as (ap (between s) q) (put_from b.0 b.1 (rw (c.out-1.given.1.1 (sym (g.place ∙ b.2))) g.put)))
+
+pub put_between-requires : goal.put_between-requires
+put_between-requires c =
+    let b = c.new-written.ensures in
+    omega (arith, b.0, ap length b.1, c.if-out-length_between.false, c.length_between.ensures)

@@ -1,14 +1,7 @@
--- The invariant: the first n of the set's 16 bytes are written.
--- Assumes nothing.
-use mathlib.Core.Path.{◌≡◌}
-use Prim.Native.Nat.{◌-◌, ◌≤◌}
-use lib.ListN.{length, take}
-use Rattle.keys.specs.Stored.{keys_bytes, members}
-use Rattle.writer.specs.State.{Put}
+-- The invariant: the first i of the set's 16 bytes are written.
+use Rattle.std.proofs.Common.{◌≡◌, ℕ, ◌<◌, get_or}
+use Rattle.keys.specs.Stored.{byte_of, members}
 use Rattle.nophtris.proofs.put_sounding.Given as goal
 
-abbrev pub invariant-loop-n : goal.invariant-loop-n
-invariant-loop-n l = (l.n ≤ 16) × (length l.out ≡ length l.initial.out) × Put 0 l.n (take l.n (keys_bytes (members l.keys))) l.initial.out l.out
-
-abbrev pub decreases-loop-n : goal.decreases-loop-n
-decreases-loop-n l = 16 - l.n
+abbrev pub invariant-loop-i : goal.invariant-loop-i
+invariant-loop-i l = (k : ℕ) → k < l.i → get_or l.out k 0 ≡ byte_of (members l.keys) k

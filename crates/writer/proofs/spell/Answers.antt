@@ -1,9 +1,8 @@
 -- By whether there is a root; K is the one that the record shows.
 -- Assumes nothing.
-use mathlib.Core.Path.{sym, ap, ◌∙◌}
+use mathlib.Core.Path.{sym, ap}
 use Rattle.chord.specs.Chord.{four_of}
 use Rattle.house_text.specs.Spelling.{house_by}
-use Rattle.writer.proofs.Answers.{spell_by, house-by}
 use Rattle.writer.proofs.Puts.{put-none, put_as}
 use Rattle.writer.proofs.spell.Goals as goal
 
@@ -15,5 +14,4 @@ returns-in-None c =
 pub returns-in-Some : goal.returns-in-Some
 returns-in-Some c =
     let f = four_of c.args.chord in
-    let k = c.kind_in in
-    put_as (ap (λ r. spell_by r k.result f) (sym c.in-Some.is) ∙ house-by f.root k.result f k.ensures) c.put_spelling.ensures
+    put_as (sym (ap (λ r. house_by r f) c.in-Some.is)) c.put_spelling.ensures

@@ -23,4 +23,4 @@ returns c =
     let t = c.has_text in
     gave_spelled (four_of a.chord) a.buffer.now c.if-buffer-lt112.false
     (is_test a.chord t.result t.ensures ∙ negated _ _ c.if-not-has_text.false-raw)
-    c.spell-n.ensures
+    c.spell.ensures

@@ -1,37 +1,23 @@
--- The invariant: the messages of the digits taken off so far stand behind the first n bytes. The measure is the number that is left.
+-- The next digit is below the 64th and its message has room, since the digits that are left have; it is taken off, which makes the rest
+-- smaller. Where none is left, all messages are written.
 -- Assumes nothing.
 use mathlib.Core.Path.{◌≡◌}
 use Prim.Native.Nat.{◌*◌, ◌%◌, ◌^◌, ◌<◌}
 use native.Mathlib.Omega.{arith}
-use lib.Count.{count_trailing_zeros, trailing_le}
+use lib.Count.{count_trailing_zeros}
 use Rattle.intervals.proofs.Bits.{power}
-use Rattle.midi.proofs.Words.{finish, kept, less, next_place, room, start, step}
+use Rattle.midi.proofs.Words.{finish, less, next_place, room, start, step}
 use Rattle.midi.proofs.messages.put_word.Goals as goal
 
 pub loop-left-init : goal.loop-left-init
 loop-left-init c =
     let a = c.args in
-    start a.status a.velocity a.from a.bits a.n a.out.now c.ranges.bits.fits
+    start a.touch.status a.touch.velocity a.from a.bits a.out.now c.ranges.bits.fits
 
-pub overflow_cast-t : goal.overflow_cast-t
-overflow_cast-t c = omega (arith, trailing_le 64 c.loop-left.left)
-
-pub overflow_add-from : goal.overflow_add-from
-overflow_add-from c = omega (arith, trailing_le 64 c.loop-left.left, c.requires.0)
-
-pub put_message-m-requires : goal.put_message-m-requires
-put_message-m-requires c =
+pub put_message-requires : goal.put_message-requires
+put_message-requires c =
     let h : 0 < c.loop-left.left = omega (arith, c.loop-left-test.true) in
     room c.loop-left.invariant h c.requires.1
-
-pub overflow_cast-left : goal.overflow_cast-left
-overflow_cast-left c = omega (arith, trailing_le 64 c.loop-left.left)
-
-pub overflow_shl-left : goal.overflow_shl-left
-overflow_shl-left c =
-    let l = c.loop-left in
-    let h : 0 < l.left = omega (arith, c.loop-left-test.true) in
-    omega (arith, (next_place l.invariant h).place)
 
 pub overflow_sub-left : goal.overflow_sub-left
 overflow_sub-left c =
@@ -56,10 +42,7 @@ loop-left-preserved c =
     let t = count_trailing_zeros 64 l.left in
     let h : 0 < l.left = omega (arith, c.loop-left-test.true) in
     let e : (1 * 2 ^ t) % 2 ^ 64 ≡ 2 ^ t = power 64 t (next_place l.invariant h).place in
-    rw e (step l.invariant h c.put_message-m.ensures)
-
-pub shape_of-out : goal.shape_of-out
-shape_of-out c = kept c.loop-left.invariant c.requires.1
+    rw e (step l.invariant h c.put_message.ensures)
 
 pub returns : goal.returns
 returns c = finish c.loop-left.invariant c.loop-left-test.false

@@ -1,37 +1,33 @@
--- The root, the parts and the bass, one after the other. The tables hold the texts, by computation.
--- Assumes nothing.
-use mathlib.Core.Path.{refl, sym}
-use native.Mathlib.Omega.{arith}
+-- The root, the parts and the bass, one after the other.
+use Rattle.std.proofs.Common.{sym, ap, ◌∙◌, arith, length}
+use Rattle.house_text.specs.Spelling.{spell}
 use Rattle.intervals.specs.Stored.{members}
-use Rattle.writer.proofs.Parts.{note_room, parts-room, spell-room, spell-parts}
-use Rattle.writer.proofs.Puts.{put_then, put_as, put-length}
+use Rattle.house_parts.specs.declared.kind.SusKind.{SusKind}
+use Rattle.writer.proofs.Parts.{parts-room, spell-room, spell-parts}
+use Rattle.writer.proofs.Puts.{grew_then, put_as, put_from}
 use Rattle.writer.proofs.spelling.put_spelling.Goals as goal
 
-pub put_note-a-requires : goal.put_note-a-requires
-put_note-a-requires c = omega (arith, note_room c.args.root)
-
-pub put_parts-b-requires : goal.put_parts-b-requires
-put_parts-b-requires c =
-    let a = c.args in
-    let p = c.requires in
-    let v = c.put_note-a.ensures in
-    let r = parts-room a.root (members a.set) a.k in
-    (record { rows = refl; sizes = refl }, omega (arith, p, r, v.count, put-length v (omega (arith, p, r, v.count))))
+pub put_parts-requires : goal.put_parts-requires
+put_parts-requires c =
+    let b = c.new-out.ensures in
+    let v = c.put_note.ensures in
+    let r = parts-room c.args.root (members c.args.chord.normalized) c.kind_in.result in
+    omega (arith, c.requires, r, b.0, ap length b.1, v.put.count, v.size)
 
 pub put_bass-requires : goal.put_bass-requires
 put_bass-requires c =
     let a = c.args in
-    let p = c.requires in
-    let v = c.put_note-a.ensures in
-    let w = c.put_parts-b.ensures in
-    let r = spell-room a.root a.bass (members a.set) a.k in
-    let x = put_then v w in
-    omega (arith, p, r, v.count, w.count, put-length x (omega (arith, p, r, v.count, w.count)))
+    let b = c.new-out.ensures in
+    let w = grew_then c.put_note.ensures c.put_parts.ensures in
+    let r = spell-room a.root a.chord.bass (members a.chord.normalized) c.kind_in.result in
+    omega (arith, c.requires, r, b.0, ap length b.1, c.put_note.ensures.put.count, c.put_parts.ensures.put.count, w.size)
 
 pub returns : goal.returns
 returns c =
     let a = c.args in
-    let u = c.put_note-a.ensures in
-    let v = c.put_parts-b.ensures in
-    let w = c.put_bass.ensures in
-    put_as (sym (spell-parts a.root a.bass (members a.set) a.k)) (put_then u (put_then v w))
+    let b = c.new-out.ensures in
+    let n = members a.chord.normalized in
+    let k = c.kind_in.result in
+    let w = grew_then c.put_note.ensures (grew_then c.put_parts.ensures c.put_bass.ensures) in
+    let e = sym (spell-parts a.root a.chord.bass n k) ∙ ap (λ (j : SusKind). spell a.root a.chord.bass n j) c.kind_in.ensures in
+    put_as e (put_from b.0 b.1 (rw (c.buffer-1.given.1.1 (sym (w.place ∙ b.2))) w.put))
