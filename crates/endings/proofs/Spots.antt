@@ -1,6 +1,6 @@
 -- Where the bar of a number lies: from the start that was found in each line to the spot of the definition, and that it fits its line.
 -- Assumes nothing.
-use mathlib.Core.Bool.{Bool, true, false, true≢false, cond}
+use mathlib.Core.Bool.{Bool, true, false}
 use mathlib.Core.List.{List}
 use mathlib.Core.Path.{◌≡◌, refl, sym, ap, subst, ◌∙◌}
 use Prim.Native.Nat.{ℕ, ◌+◌, ◌-◌, ◌≤◌, ◌<◌}
@@ -137,3 +137,6 @@ module _ (s : Spot) (a : Answer) (e : s.answer ≡ a) where
   pub part_in : (body ending r : Line) → Part (line_of a body ending) s.from s.to r
       → Part (line_of s.answer body ending) s.from s.to r
   part_in body ending r p = subst (λ (x : Answer). Part (line_of x body ending) s.from s.to r) (sym e) p
+
+-- what `spot_of` asks for
+pub ruleset found = (found_body, found_ending, found_none, found_within)

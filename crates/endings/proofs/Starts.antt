@@ -9,7 +9,7 @@ use native.Mathlib.Omega.{arith}
 use lib.Dec.{eqb, ltb}
 use lib.ListN.{length, get_or, take, drop, drop_of_length-le}
 use lib.Seq.{drop-cons}
-use borrow.Author.Tests.{eq-eqb, le-ltb, lt-ltb, ltb-false, ltb-true, ne_eqb}
+use borrow.Author.Tests.{eq-eqb, ltb-false, ltb-true, ne_eqb}
 use Rattle.bars.proofs.Laws.{bar-take}
 use Rattle.bars.proofs.Splits.{length-onto, some-bar}
 use Rattle.bars.specs.Bars.{stroke, onto, bars_of, bar, bar_at, bar_end}

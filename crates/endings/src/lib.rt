@@ -81,7 +81,7 @@ fn no_spot(answer: Answer) -> Spot
 }
 
 // Where the bar of any number lies in any two lines.
-#[tactic(auto, unfolding(crate::specs::Endings::spot_of))]
+#[tactic(auto, using(crate::proofs::Spots::found), unfolding(crate::specs::Endings::spot_of))]
 pub fn spot_of<'a>(body: &'a [u8], ending: &'a [u8], number: usize) -> Spot
     ensures { result ≡ spot_of body.now ending.now number }
 {
@@ -117,6 +117,7 @@ pub fn bar_of<'a>(body: &'a [u8], ending: &'a [u8], number: usize) -> &'a [u8]
 }
 
 // The answer to any number, and the bar beside it.
+#[tactic(auto, using(crate::proofs::Spots::spot_fits))]
 pub fn bar_by_number<'a>(body: &'a [u8], ending: &'a [u8], number: usize) -> NumberedBar<'a>
     ensures { NumberedBy body.entry ending.entry number result }
 {
