@@ -33,7 +33,7 @@ row c = go (ltb c 128) (ltb c 2048) (ltb c 65536) refl refl refl
     go false false true p q r = three (ltb-false c 2048 q) (ltb-true c 65536 r) (rw (p, q, r))
     go false false false p q r = four (ltb-false c 65536 r) (rw (p, q, r))
 
-is_true : (b : Bool) → T b → b ≡ true
+pub is_true : (b : Bool) → T b → b ≡ true
 is_true true t = refl
 is_true false t = absurd t
 
