@@ -5,11 +5,10 @@ use mathlib.Core.Bool.{Bool, true, false, ◌&&◌, cond, false≢true}
 use mathlib.Core.List.{List, [], ◌∷◌}
 use mathlib.Core.Path.{◌≡◌, refl, sym, ap, ◌∙◌, subst}
 use Prim.Native.Nat.{ℕ, ◌+◌, ◌*◌, ◌-◌, ◌/◌, ◌%◌, ◌≤◌, ◌<◌}
-use native.Mathlib.Nat.{div-div-eq-div-mul, le_of_eq}
+use native.Mathlib.Nat.{div-div-eq-div-mul}
 use native.Mathlib.Omega.{arith}
 use lib.Dec.{T, leb}
-use lib.ListN.{length, get_or, take, drop, length-drop, get_or-append}
-use lib.Seq.{take_all, drop-cons}
+use lib.ListN.{length, get_or, drop, get_or-append}
 use borrow.Author.Tests.{lt-ltb, le-ltb, le-leb, leb-true}
 use Rattle.std.specs.Prelude.{Option, Some, None}
 use Rattle.utf8.specs.State.{More, character, found_of}
@@ -203,11 +202,3 @@ pub empty-end : (s : List ℕ) → length s ≡ 0 → char_of s ≡ End
 unfolding char_of
 empty-end [] e = refl
 empty-end (x ∷ s) e = absurd (omega arith)
-
--- the part of a text from a position on: what is lent there, and its first byte
-module _ (s : List ℕ) (i : ℕ) where
-  pub part-is : take (length s - i) (drop i s) ≡ drop i s
-  part-is = take_all _ _ (le_of_eq (length-drop i s))
-
-  pub part_first : i < length s → (a : ℕ) → a ≡ get_or s i 0 → 128 ≤ a → (0 < length (take (length s - i) (drop i s))) × (a ≡ get_or (take (length s - i) (drop i s)) 0 0) × (128 ≤ a)
-  part_first l a e h = rw part-is (rw (drop-cons s i 0 l) (omega arith, e, h))
