@@ -2,7 +2,7 @@
 -- that all others are skipped at once (`skip`), and so are ends at which no word with the text's letter ends (`down`). The loop over the
 -- words of a letter is `Chosen`, with its start, step and ends; its measure is `rank`.
 -- Assumes nothing.
-use mathlib.Core.Bool.{Bool, true, false, ◌&&◌, ◌||◌, cond, and-false, true≢false}
+use mathlib.Core.Bool.{Bool, true, false, ◌&&◌, cond, and-false}
 use mathlib.Core.List.{List, [], ◌∷◌}
 use mathlib.Core.Path.{◌≡◌, refl, sym, ap, ap₂, ◌∙◌, subst}
 use Prim.Native.Nat.{ℕ, zero, suc, ◌+◌, ◌-◌, ◌*◌, ◌≤◌, ◌<◌}
@@ -15,9 +15,9 @@ use borrow.Author.Tests.{lt-ltb, le-ltb, eq-eqb, ne_eqb, eqb-true, eqb-false, lt
 use Rattle.std.specs.Prelude.{Option, Some, None, unwrap_or}
 use Rattle.utf8.specs.Utf8.{begins}
 use Rattle.lexer.specs.State.{other_than, found_word, initial, letters_in, longest_word, place_of, or_place, place_down, nexts_from, next_places, word_at}
-use Rattle.lexer.specs.Words.{Word, word, words, match, no_match, run_end, word_to, or_shorter, by_ends, word_by_ends}
+use Rattle.lexer.specs.Words.{Word, word, words, match, no_match, word_to, or_shorter, by_ends, word_by_ends}
 use Rattle.lexer.specs.declared.Match.{Match}
-use Rattle.lexer.proofs.Runs.{begins_fits, ends_limited, word_fits, words_count}
+use Rattle.lexer.proofs.Runs.{ends_limited, word_fits, words_count}
 
 -- a word with another first letter than the text, or of another length, does not stand up to an end
 other : (n : ℕ) (p s : List ℕ) → 1 ≤ n → (eqb (get_or p 0 0) (get_or s 0 0) && eqb (length p) n) ≡ false
@@ -218,39 +218,10 @@ module _ (i n b : ℕ) (h : i < 55) (size : letters_in (word_at i) ≡ suc n) (l
           (λ k. omega (arith, d.short (omega (arith, words_count)), rank_in i h))
           (omega (arith, rank_in i h))
 
--- does a word of a list begin with b?
-unfoldable pub starts : ℕ → List Word → Bool
-starts b [] = false
-starts b (w ∷ ws) = eqb (initial w) b || starts b ws
-
--- a letter that no word begins with
-no_place : (b n : ℕ) (ws : List Word) → starts b ws ≡ false → place_of b n ws ≡ length ws
-unfolding starts place_of
-no_place b n [] e = refl
-no_place b n (w ∷ ws) e = go (eqb (initial w) b) e (no_place b n ws)
-  where
-    go : (x : Bool) → (x || starts b ws) ≡ false → (starts b ws ≡ false → place_of b n ws ≡ length ws)
-        → cond (x && eqb (letters_in w) n) 0 (suc (place_of b n ws)) ≡ suc (length ws)
-    go true e ih = absurd (true≢false e)
-    go false e ih = ap suc (ih e)
-
-pub no_start : (b n : ℕ) → starts b words ≡ false → place_down b n ≡ 55
-unfolding place_down
-no_start b zero e = words_count
-no_start b (suc n) e = rw (no_place b (suc n) words e, le-ltb (length words) (length words) (omega arith)) (no_start b n e)
-
 -- the longest word has ten letters, by computation
 pub longest_is : longest_word ≡ 10
 unfolding words
 longest_is = refl
-
--- a word that is longer than the letter run of a text does not stand there
-pub begins_far : (i : ℕ) → i < 55 → (s : List ℕ) → run_end s < letters_in (word_at i) → begins (word_at i).text s ≡ false
-begins_far i h s l = go (begins (word_at i).text s) refl
-  where
-    go : (x : Bool) → begins (word_at i).text s ≡ x → x ≡ false
-    go true e = absurd (omega (arith, begins_fits (word_at i) (word_fits i h) s e))
-    go false e = refl
 
 -- trying the words from place i on gives the word of the run; the word at i begins with the text's letter
 pub record Chosen (s : List ℕ) (i : ℕ) : Type 0 where

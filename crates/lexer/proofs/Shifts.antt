@@ -1,15 +1,15 @@
 -- Tokens that move up by one place, and a token put before them.
 -- Assumes nothing.
 use mathlib.Core.List.{List, ◌∷◌, ◌++◌, append_assoc}
-use mathlib.Core.Path.{◌≡◌, refl, sym, ap, ap₂, ◌∙◌}
-use Prim.Native.Nat.{ℕ, suc, ◌+◌, ◌-◌, ◌<◌, ◌≤◌}
+use mathlib.Core.Path.{◌≡◌, sym, ap, ap₂, ◌∙◌}
+use Prim.Native.Nat.{ℕ, ◌+◌, ◌-◌, ◌<◌, ◌≤◌}
 use native.Mathlib.Numerals.{add-one}
 use native.Mathlib.Omega.{arith}
 use lib.ListN.{length, set, take, drop, length-set, length-append, length-take, length-drop, take-append-drop}
 use Rattle.std.proofs.lemmas.Slice.{take-put_mid, take-put_mid_below, drop-put_mid, between_is}
 use borrow.Rule.Slice.PartMut.{put_mid}
-use lib.Seq.{drop_at, length-take-le, slice, slice-cons, slice_empty, take-set-le, drop-set-lt, take-take, get_or-take, get_or-set_same}
-use Rattle.token.specs.Token.{token, at}
+use lib.Seq.{drop_at, length-take-le, slice, slice-cons, take-set-le, drop-set-lt, take-take, get_or-set_same}
+use Rattle.token.specs.Token.{token}
 use Rattle.token.specs.declared.Token.{Token}
 use Rattle.lexer.specs.State.{Inserted}
 use Rattle.token.proofs.Parts.{slice-later}

@@ -1,26 +1,21 @@
 -- One step of the scan keeps all tokens: those that stand in the arrays and those still to come. So does a letter run that is cut
 -- (`Cutting`), and so do two parts of the scan, one after the other (`went_on`).
 -- Assumes nothing.
-use mathlib.Core.Bool.{true, false}
 use mathlib.Core.List.{List, [], ◌∷◌, ◌++◌, append_assoc}
 use mathlib.Core.Path.{◌≡◌, refl, sym, ap, ap₂, ◌∙◌, subst}
 use Prim.Native.Nat.{ℕ, zero, suc, ◌+◌, ◌-◌, ◌≤◌, ◌<◌}
 use native.Mathlib.Nat.{add-zero}
 use native.Mathlib.Numerals.{add-one}
 use native.Mathlib.Omega.{arith}
-use lib.Dec.{T}
 use lib.ListN.{length, take, drop, set, length-append, drop_of_length-le, length-drop}
 use lib.Seq.{slice, slice_empty, drop-cons, drop-drop, take-take, take_at, drop_at, length-take-le, take-suc-set, drop-set-lt}
-use Rattle.std.specs.Prelude.{Some}
 use Rattle.token.specs.Token.{token, Room}
 use Rattle.token.specs.declared.Token.{Token}
 use Rattle.lexer.specs.Lexer.{head_of, emit, illegal, lex, size_of, word_head}
-use Rattle.lexer.specs.State.{plan_of, Adds, all_tokens, Few, Inserted, Emitted, Went, Written, scan}
+use Rattle.lexer.specs.State.{plan_of, all_tokens, Few, Inserted, Emitted, Went, Written, scan}
 use Rattle.lexer.specs.Words.{run_end, word_by_ends}
 use Rattle.lexer.specs.declared.Head.TheVariants as head
 use Rattle.lexer.specs.declared.Head.{Head}
-use Rattle.lexer.specs.declared.Added.{Added}
-use Rattle.lexer.specs.declared.Plan.{Plan}
 use Rattle.lexer.specs.declared.Scan.{Scan}
 use Rattle.lexer.proofs.Heads.{Sized, head_sized, letter_head, word-within}
 use Rattle.lexer.proofs.Runs.{run_drop, run_within}

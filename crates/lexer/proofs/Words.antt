@@ -1,13 +1,13 @@
 -- The word list: the table holds it row by row, and a word stands at a place of a text if it stands in the part that no word passes.
 -- Assumes nothing.
-use mathlib.Core.Bool.{Bool, true, false, ◌&&◌, false≢true, and-false}
+use mathlib.Core.Bool.{Bool, true, false, ◌&&◌}
 use mathlib.Core.List.{List, [], ◌∷◌, zip_with}
-use mathlib.Core.Path.{◌≡◌, refl, sym, ap, ◌∙◌}
-use Prim.Native.Nat.{ℕ, zero, suc, ◌+◌, ◌≤◌, ◌<◌, min}
+use mathlib.Core.Path.{◌≡◌, refl, ap, ◌∙◌}
+use Prim.Native.Nat.{ℕ, zero, suc, ◌≤◌, ◌<◌, min}
 use native.Mathlib.Omega.{arith}
 use lib.Dec.{eqb}
 use lib.Seq.{take_at}
-use lib.ListN.{length, get_or, take, drop}
+use lib.ListN.{length, get_or, take}
 use Rattle.std.specs.Cmp.Lexicographic.{pointwise}
 use Rattle.utf8.specs.Utf8.{begins}
 use Rattle.lexer.specs.State.{longest_word, nexts_from, next_places, row, row_at, word_at, word_rows}

@@ -1,7 +1,7 @@
 -- Bookkeeping of contracts between our own functions; no promise of an entry point rests on it.
 -- What the lexer's code keeps while it scans: the lent tables, the place it has come to, and what one step adds.
-use Rattle.std.specs.Prelude.{◌&&◌, cond, Option, Some, None, MatchOption, ◌≡◌, ℕ, zero, suc, ◌+◌, ◌-◌, ◌≤◌, ◌<◌, min, max, eqb, ltb, length, take, drop, get_or}
-use mathlib.Core.List.{List, [], ◌∷◌, ◌++◌, map, zip_with}
+use Rattle.std.specs.Prelude.{◌&&◌, cond, Option, Some, None, ◌≡◌, ℕ, zero, suc, ◌+◌, ◌-◌, ◌≤◌, min, max, eqb, ltb, length, take, drop, get_or}
+use mathlib.Core.List.{List, [], ◌∷◌, ◌++◌, zip_with}
 use Rattle.std.proofs.Math.Seq.{slice}
 use Rattle.intervals.specs.Interval.{elem}
 use Rattle.token.specs.Token.{token, type_number, Ranged, Room}

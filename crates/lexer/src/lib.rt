@@ -13,8 +13,8 @@ ghost use Rattle.lexer.specs.State.{other_than, found_word, digit_in_or, bytes_i
 ghost use Rattle.utf8.specs.declared.Found.TheVariants as utf8;
 
 use token::{
-    AUG, COMMA, DIM, EOF, FLAT, HALF_DIM, HYPHEN, ILLEGAL, LPARENT, MAJ7, RPARENT, SHARP, SLASH,
-    Token,
+    AUG, COMMA, DIM, EOF, FLAT, HALF_DIM, HYPHEN, ILLEGAL, LPARENT, MAJ, MAJ7, RPARENT, SHARP,
+    SLASH, Token,
 };
 use utf8::Found;
 
@@ -23,63 +23,78 @@ use utf8::Found;
 #[derive(Clone, Copy)]
 pub struct Row(pub [u8; 10], pub u8, pub u8, pub u8);
 
+// The numbers of the types that only words have; a note has this one and its letter, from C on.
+const ADD: u8 = 8;
+
+const OMIT: u8 = 9;
+
+const ALT: u8 = 10;
+
+const SUS: u8 = 11;
+
+const MINOR: u8 = 12;
+
+const BASS: u8 = 20;
+
+const NOTE: u8 = 64;
+
 // The words. What fills a row's text is not looked at; it counts the places.
 static WORDS: [Row; 55] = [
-    Row(*b"BASS456789", 4, 20, 1),
-    Row(*b"Bass456789", 4, 20, 49),
-    Row(*b"bass456789", 4, 20, 23),
-    Row(*b"MAJ3456789", 3, 14, 4),
-    Row(*b"Maj3456789", 3, 14, 13),
-    Row(*b"maj3456789", 3, 14, 15),
-    Row(*b"MAJOR56789", 5, 14, 7),
-    Row(*b"Major56789", 5, 14, 16),
-    Row(*b"major56789", 5, 14, 18),
-    Row(*b"MA23456789", 2, 14, 10),
-    Row(*b"Ma23456789", 2, 14, 19),
-    Row(*b"ma23456789", 2, 14, 21),
-    Row(*b"M123456789", 1, 14, 55),
-    Row(*b"MIN3456789", 3, 12, 14),
-    Row(*b"Min3456789", 3, 12, 9),
-    Row(*b"min3456789", 3, 12, 11),
-    Row(*b"MINOR56789", 5, 12, 17),
-    Row(*b"Minor56789", 5, 12, 3),
-    Row(*b"minor56789", 5, 12, 5),
-    Row(*b"MI23456789", 2, 12, 20),
-    Row(*b"Mi23456789", 2, 12, 12),
-    Row(*b"mi23456789", 2, 12, 22),
-    Row(*b"m123456789", 1, 12, 55),
-    Row(*b"b123456789", 1, 2, 55),
-    Row(*b"SUS3456789", 3, 11, 25),
-    Row(*b"Sus3456789", 3, 11, 55),
-    Row(*b"sus3456789", 3, 11, 55),
-    Row(*b"DIM3456789", 3, 4, 28),
-    Row(*b"Dim3456789", 3, 4, 51),
-    Row(*b"dim3456789", 3, 4, 55),
-    Row(*b"diminished", 10, 4, 29),
-    Row(*b"ALT3456789", 3, 10, 32),
-    Row(*b"Alt3456789", 3, 10, 34),
-    Row(*b"alt3456789", 3, 10, 36),
-    Row(*b"AUG3456789", 3, 3, 35),
-    Row(*b"Aug3456789", 3, 3, 37),
-    Row(*b"aug3456789", 3, 3, 39),
-    Row(*b"ADD3456789", 3, 8, 38),
-    Row(*b"Add3456789", 3, 8, 48),
-    Row(*b"add3456789", 3, 8, 55),
-    Row(*b"O123456789", 1, 4, 55),
-    Row(*b"o123456789", 1, 4, 55),
-    Row(*b"OMIT456789", 4, 9, 43),
-    Row(*b"Omit456789", 4, 9, 40),
-    Row(*b"omit456789", 4, 9, 41),
-    Row(*b"NO23456789", 2, 9, 46),
-    Row(*b"No23456789", 2, 9, 55),
-    Row(*b"no23456789", 2, 9, 55),
-    Row(*b"A123456789", 1, 69, 55),
-    Row(*b"B123456789", 1, 70, 55),
-    Row(*b"C123456789", 1, 64, 55),
-    Row(*b"D123456789", 1, 65, 55),
-    Row(*b"E123456789", 1, 66, 55),
-    Row(*b"F123456789", 1, 67, 55),
-    Row(*b"G123456789", 1, 68, 55),
+    Row(*b"BASS456789", 4, BASS, 1),
+    Row(*b"Bass456789", 4, BASS, 49),
+    Row(*b"bass456789", 4, BASS, 23),
+    Row(*b"MAJ3456789", 3, MAJ, 4),
+    Row(*b"Maj3456789", 3, MAJ, 13),
+    Row(*b"maj3456789", 3, MAJ, 15),
+    Row(*b"MAJOR56789", 5, MAJ, 7),
+    Row(*b"Major56789", 5, MAJ, 16),
+    Row(*b"major56789", 5, MAJ, 18),
+    Row(*b"MA23456789", 2, MAJ, 10),
+    Row(*b"Ma23456789", 2, MAJ, 19),
+    Row(*b"ma23456789", 2, MAJ, 21),
+    Row(*b"M123456789", 1, MAJ, 55),
+    Row(*b"MIN3456789", 3, MINOR, 14),
+    Row(*b"Min3456789", 3, MINOR, 9),
+    Row(*b"min3456789", 3, MINOR, 11),
+    Row(*b"MINOR56789", 5, MINOR, 17),
+    Row(*b"Minor56789", 5, MINOR, 3),
+    Row(*b"minor56789", 5, MINOR, 5),
+    Row(*b"MI23456789", 2, MINOR, 20),
+    Row(*b"Mi23456789", 2, MINOR, 12),
+    Row(*b"mi23456789", 2, MINOR, 22),
+    Row(*b"m123456789", 1, MINOR, 55),
+    Row(*b"b123456789", 1, FLAT, 55),
+    Row(*b"SUS3456789", 3, SUS, 25),
+    Row(*b"Sus3456789", 3, SUS, 55),
+    Row(*b"sus3456789", 3, SUS, 55),
+    Row(*b"DIM3456789", 3, DIM, 28),
+    Row(*b"Dim3456789", 3, DIM, 51),
+    Row(*b"dim3456789", 3, DIM, 55),
+    Row(*b"diminished", 10, DIM, 29),
+    Row(*b"ALT3456789", 3, ALT, 32),
+    Row(*b"Alt3456789", 3, ALT, 34),
+    Row(*b"alt3456789", 3, ALT, 36),
+    Row(*b"AUG3456789", 3, AUG, 35),
+    Row(*b"Aug3456789", 3, AUG, 37),
+    Row(*b"aug3456789", 3, AUG, 39),
+    Row(*b"ADD3456789", 3, ADD, 38),
+    Row(*b"Add3456789", 3, ADD, 48),
+    Row(*b"add3456789", 3, ADD, 55),
+    Row(*b"O123456789", 1, DIM, 55),
+    Row(*b"o123456789", 1, DIM, 55),
+    Row(*b"OMIT456789", 4, OMIT, 43),
+    Row(*b"Omit456789", 4, OMIT, 40),
+    Row(*b"omit456789", 4, OMIT, 41),
+    Row(*b"NO23456789", 2, OMIT, 46),
+    Row(*b"No23456789", 2, OMIT, 55),
+    Row(*b"no23456789", 2, OMIT, 55),
+    Row(*b"A123456789", 1, NOTE + 5, 55),
+    Row(*b"B123456789", 1, NOTE + 6, 55),
+    Row(*b"C123456789", 1, NOTE, 55),
+    Row(*b"D123456789", 1, NOTE + 1, 55),
+    Row(*b"E123456789", 1, NOTE + 2, 55),
+    Row(*b"F123456789", 1, NOTE + 3, 55),
+    Row(*b"G123456789", 1, NOTE + 4, 55),
 ];
 
 // The longest word has so many letters (`diminished`).
@@ -317,7 +332,7 @@ fn is_two(v: u8) -> bool
 fn is_one(d: u8) -> bool
     ensures { result ≡ elem d one_digit }
 {
-    matches!(d, 2 | 3 | 4 | 5 | 6 | 7 | 9)
+    matches!(d, 2..=7 | 9)
 }
 
 // The number of one digit: d, of n bytes.

@@ -1,19 +1,20 @@
 -- From the bytes that the code tests to the definition. Bytes of the right form are an encoding, which is found (`two-found` to
 -- `four-found`; one byte: `Laws`); bytes that no encoding begins with are Bad (`rejected`), and what an encoding's bytes are goes by its row (`Lead`).
 -- Assumes nothing.
-use mathlib.Core.Bool.{Bool, true, false, not, ◌&&◌, cond}
+use mathlib.Core.Bool.{Bool, true, false, ◌&&◌, cond, false≢true}
 use mathlib.Core.List.{List, [], ◌∷◌}
 use mathlib.Core.Path.{◌≡◌, refl, sym, ap, ◌∙◌, subst}
 use Prim.Native.Nat.{ℕ, ◌+◌, ◌*◌, ◌-◌, ◌/◌, ◌%◌, ◌≤◌, ◌<◌}
-use native.Mathlib.Nat.{div-div-eq-div-mul, le_of_eq}
+use native.Mathlib.Nat.{div-div-eq-div-mul}
 use native.Mathlib.Omega.{arith}
-use lib.Dec.{T}
-use lib.ListN.{length, get_or, take, drop, length-drop, get_or-append}
-use lib.Seq.{take_all, drop-cons}
-use borrow.Author.Tests.{lt-ltb, le-ltb, not-true}
+use lib.Dec.{T, leb}
+use lib.ListN.{length, get_or, drop, get_or-append}
+use borrow.Author.Tests.{lt-ltb, le-ltb, le-leb, leb-true}
+use Rattle.std.specs.Prelude.{Option, Some, None}
+use Rattle.utf8.specs.State.{More, character, found_of}
 use Rattle.utf8.specs.Utf8.{is_scalar, encode, begins, bits, char_of}
 use Rattle.utf8.specs.declared.Found.TheVariants.{Char, Bad, End}
-use Rattle.utf8.proofs.Laws.{Row, one, two, three, four, row, scalar_high, low_scalar, high_scalar, found, begins-split}
+use Rattle.utf8.proofs.Laws.{is_true, Row, one, two, three, four, row, scalar_high, low_scalar, high_scalar, found, begins-split}
 
 pub two-found : (s : List ℕ) (c : ℕ) → 1 < length s → 128 ≤ c → c < 2048 → get_or s 0 0 ≡ 192 + c / 64 → get_or s 1 0 ≡ 128 + c % 64 → char_of s ≡ Char c 2
 unfolding encode
@@ -81,10 +82,6 @@ rejected (x ∷ s) l f = go (is_scalar (bits (x ∷ s))) (begins (encode (bits (
     go true false p q = refl
     go false b p q = refl
 
--- a test that was refused, and what would have passed it
-pub unless : {b : Bool} {P Q : Type 0} → (P → Q → b ≡ true) → not b ≡ true → P → Q → ⊥
-unless {b} f e p q = subst T (sym (f p q) ∙ not-true b e) tt
-
 -- bytes that begin no character, by the first that is wrong
 module _ (s : List ℕ) (l : 0 < length s) where
   pub bad_lead : 128 ≤ get_or s 0 0 → get_or s 0 0 < 192 → char_of s ≡ Bad
@@ -132,37 +129,76 @@ module _ (s : List ℕ) (l : 0 < length s) where
       go k t (lead3 p q e f g) = omega arith
       go k t (lead4 p e f g h) = n (omega arith) (omega arith)
 
--- the number that two bytes give: c, from the first byte a and the six bits x of the second
-pub two_value : (s : List ℕ) (k a x : ℕ) → 192 ≤ a → a < 224 → a ≡ get_or s 0 0 → x + 128 ≡ get_or s 1 0 → Lead k s → ((a - 192) * 64 + x ≡ k) × (128 ≤ k)
-two_value s k a x l h p q (lead1 r e) = absurd (omega arith)
-two_value s k a x l h p q (lead2 r t e f) = (omega arith, r)
-two_value s k a x l h p q (lead3 r t e f g) = absurd (omega arith)
-two_value s k a x l h p q (lead4 r e f g i) = absurd (omega arith)
+-- A number that the bytes give is what they begin with if it is a character's and at least low; else no encoding begins them, where each
+-- that does would be that of this number.
+chosen : (s : List ℕ) (c low n : ℕ) {r : Option (ℕ × ℕ)} → r ≡ character c low n → 0 < length s → (T (is_scalar c) → low ≤ c → char_of s ≡ Char c n)
+    → ((k : ℕ) → T (is_scalar k) → Lead k s → (c ≡ k) × (low ≤ k)) → found_of r ≡ char_of s
+chosen s c low n {r} e l f g = ap found_of e ∙ go (leb low c) (is_scalar c) refl refl
+  where
+    wrong : (leb low c && is_scalar c) ≡ false → (k : ℕ) → T (is_scalar k) → Lead k s → ⊥
+    wrong h k t d =
+        let w = g k t d in
+        let q : (leb low c && is_scalar c) ≡ true = rw (le-leb low c (omega (arith, w.0, w.1))) (ap is_scalar w.0 ∙ is_true (is_scalar k) t) in
+        false≢true (sym h ∙ q)
 
-pub three_value : (s : List ℕ) (k a x y : ℕ) → 224 ≤ a → a < 240 → a ≡ get_or s 0 0 → x + 128 ≡ get_or s 1 0 → y + 128 ≡ get_or s 2 0 → Lead k s → ((a - 224) * 4096 + x * 64 + y ≡ k) × (2048 ≤ k)
-three_value s k a x y l h p q u (lead1 r e) = absurd (omega arith)
-three_value s k a x y l h p q u (lead2 r t e f) = absurd (omega arith)
-three_value s k a x y l h p q u (lead3 r t e f g) = (omega arith, r)
-three_value s k a x y l h p q u (lead4 r e f g i) = absurd (omega arith)
+    go : (a b : Bool) → leb low c ≡ a → is_scalar c ≡ b → found_of (cond (a && b) (Some (c, n)) None) ≡ char_of s
+    go true true h i = sym (f (subst T (sym i) tt) (leb-true low c h))
+    go true false h i = sym (rejected s l (wrong (rw (h, i))))
+    go false b h i = sym (rejected s l (wrong (rw h)))
 
-pub four_value : (s : List ℕ) (k a x y z : ℕ) → 240 ≤ a → a ≡ get_or s 0 0 → x + 128 ≡ get_or s 1 0 → y + 128 ≡ get_or s 2 0 → z + 128 ≡ get_or s 3 0 → Lead k s → ((a - 240) * 262144 + x * 4096 + y * 64 + z ≡ k) × (65536 ≤ k)
-four_value s k a x y z l p q u v (lead1 r e) = absurd (omega arith)
-four_value s k a x y z l p q u v (lead2 r t e f) = absurd (omega arith)
-four_value s k a x y z l p q u v (lead3 r t e f g) = absurd (omega arith)
-four_value s k a x y z l p q u v (lead4 r e f g i) =
-    let m : k / 64 / 64 ≡ k / 4096 = div-div-eq-div-mul k 64 64 in
-    let n : k / 4096 / 64 ≡ k / 262144 = div-div-eq-div-mul k 4096 64 in
-    (omega arith, r)
+-- the number that the first byte a and the six bits of each further byte give
+module _ (s : List ℕ) (a : ℕ) {r : Option (ℕ × ℕ)} (l : 0 < length s) (e : a ≡ get_or s 0 0) where
+  pub two_char : (v : ℕ) → 192 ≤ a → a < 224 → More s 1 (a - 192) (Some v) → r ≡ character v 128 2 → found_of r ≡ char_of s
+  two_char v p q m f =
+      chosen s v 128 2 f l
+      (λ t h. two-found s v m.0 h (omega (arith, m.1, m.2, m.3)) (omega (arith, m.1, m.2, m.3)) (omega (arith, m.1, m.2, m.3)))
+      go
+    where
+      go : (k : ℕ) → T (is_scalar k) → Lead k s → (v ≡ k) × (128 ≤ k)
+      go k t (lead1 b x) = absurd (omega arith)
+      go k t (lead2 b i x y) = (omega (arith, m.1, m.3), b)
+      go k t (lead3 b i x y z) = absurd (omega arith)
+      go k t (lead4 b x y z w) = absurd (omega arith)
+
+  pub three_char : (u v : ℕ) → 224 ≤ a → a < 240 → More s 1 (a - 224) (Some u) → More s 2 u (Some v) → r ≡ character v 2048 3 → found_of r ≡ char_of s
+  three_char u v p q m o f =
+      let w : v ≡ (a - 224) * 4096 + (get_or s 1 0 - 128) * 64 + (get_or s 2 0 - 128) = omega (arith, m.3, o.3) in
+      chosen s v 2048 3 f l
+      (λ t h. three-found s v t o.0 h
+      (omega (arith, w, m.1, m.2, o.1, o.2)) (omega (arith, w, m.1, m.2, o.1, o.2)) (omega (arith, w, m.1, m.2, o.1, o.2)) (omega (arith, w, m.1, m.2, o.1, o.2)))
+      go
+    where
+      go : (k : ℕ) → T (is_scalar k) → Lead k s → (v ≡ k) × (2048 ≤ k)
+      go k t (lead1 b x) = absurd (omega arith)
+      go k t (lead2 b i x y) = absurd (omega arith)
+      go k t (lead3 b i x y z) = (omega (arith, m.1, m.3, o.1, o.3), b)
+      go k t (lead4 b x y z w) = absurd (omega arith)
+
+  pub four_char : (u v w : ℕ) → 240 ≤ a → a < 248 → More s 1 (a - 240) (Some u) → More s 2 u (Some v) → More s 3 v (Some w) → r ≡ character w 65536 4
+      → found_of r ≡ char_of s
+  four_char u v w p q m o i f =
+      chosen s w 65536 4 f l
+      (λ t h.
+      let x : w ≡ (a - 240) * 262144 + (get_or s 1 0 - 128) * 4096 + (get_or s 2 0 - 128) * 64 + (get_or s 3 0 - 128) = omega (arith, m.3, o.3, i.3) in
+      four-found s w i.0 h (scalar_high w t)
+      (omega (arith, x, m.1, m.2, o.1, o.2, i.1, i.2)) (omega (arith, x, m.1, m.2, o.1, o.2, i.1, i.2))
+      (omega (arith, x, m.1, m.2, o.1, o.2, i.1, i.2)) (omega (arith, x, m.1, m.2, o.1, o.2, i.1, i.2)))
+      go
+    where
+      go : (k : ℕ) → T (is_scalar k) → Lead k s → (w ≡ k) × (65536 ≤ k)
+      go k t (lead1 b x) = absurd (omega arith)
+      go k t (lead2 b j x y) = absurd (omega arith)
+      go k t (lead3 b j x y z) = absurd (omega arith)
+      go k t (lead4 b x y z q) =
+          let f : k / 64 / 64 ≡ k / 4096 = div-div-eq-div-mul k 64 64 in
+          let g : k / 4096 / 64 ≡ k / 262144 = div-div-eq-div-mul k 4096 64 in
+          (omega (arith, m.1, m.3, o.1, o.3, i.1, i.3), b)
+
+-- bytes that begin no character
+pub none_bad : {r : Option (ℕ × ℕ)} (s : List ℕ) → r ≡ None → char_of s ≡ Bad → found_of r ≡ char_of s
+none_bad s e f = ap found_of e ∙ sym f
 
 pub empty-end : (s : List ℕ) → length s ≡ 0 → char_of s ≡ End
 unfolding char_of
 empty-end [] e = refl
 empty-end (x ∷ s) e = absurd (omega arith)
-
--- the part of a text from a position on: what is lent there, and its first byte
-module _ (s : List ℕ) (i : ℕ) where
-  pub part-is : take (length s - i) (drop i s) ≡ drop i s
-  part-is = take_all _ _ (le_of_eq (length-drop i s))
-
-  pub part_first : i < length s → (a : ℕ) → a ≡ get_or s i 0 → 128 ≤ a → (0 < length (take (length s - i) (drop i s))) × (a ≡ get_or (take (length s - i) (drop i s)) 0 0) × (128 ≤ a)
-  part_first l a e h = rw part-is (rw (drop-cons s i 0 l) (omega arith, e, h))

@@ -33,7 +33,7 @@ row c = go (ltb c 128) (ltb c 2048) (ltb c 65536) refl refl refl
     go false false true p q r = three (ltb-false c 2048 q) (ltb-true c 65536 r) (rw (p, q, r))
     go false false false p q r = four (ltb-false c 65536 r) (rw (p, q, r))
 
-is_true : (b : Bool) → T b → b ≡ true
+pub is_true : (b : Bool) → T b → b ≡ true
 is_true true t = refl
 is_true false t = absurd t
 
@@ -58,14 +58,6 @@ scalar_high c t = go (ltb c 55296) (ltb 57343 c) refl t
     go true b e t = let h : c < 55296 = ltb-true c 55296 e in omega arith
     go false true e t = ltb→lt c 1114112 t
     go false false e t = absurd t
-
-pub no_surrogate : (c : ℕ) → T (is_scalar c) → 55296 ≤ c → 57344 ≤ c
-unfolding is_scalar
-no_surrogate c t h = go (ltb 57343 c) refl (subst (λ (a : Bool). T (a || ltb 57343 c && ltb c 1114112)) (le-ltb c 55296 h) t)
-  where
-    go : (b : Bool) → ltb 57343 c ≡ b → T (false || b && ltb c 1114112) → 57344 ≤ c
-    go true e t = ltb-true 57343 c e
-    go false e t = absurd t
 
 pub low_scalar : (c : ℕ) → c < 55296 → T (is_scalar c)
 unfolding is_scalar

@@ -1,8 +1,6 @@
 -- The character that stands there decides; it is no letter, since no letter run begins there.
-use Rattle.std.proofs.Common.{◌≡◌, drop, length, sym, ap, ◌∙◌, inl, inr, arith, length-drop}
-use Rattle.utf8.specs.declared.Found.{Found}
+use Rattle.std.proofs.Common.{drop, sym, ◌∙◌, arith, length-drop}
 use Rattle.utf8.proofs.Laws.{found_within}
-use Rattle.lexer.specs.Lexer.{head_by, head_of}
 use Rattle.lexer.proofs.Heads.{no_letter}
 use Rattle.lexer.proofs.head_at.Goals as goal
 

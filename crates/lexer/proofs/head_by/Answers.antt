@@ -1,5 +1,5 @@
 -- A digit goes by the one behind it, as in the definition; the other choices are found.
-use Rattle.std.proofs.Common.{◌≡◌, ◌+◌, drop, length, sym, ap, ap₂, ◌∙◌, arith, length-drop, drop-drop}
+use Rattle.std.proofs.Common.{◌+◌, drop, sym, ap₂, ◌∙◌, arith, length-drop, drop-drop}
 use Rattle.utf8.specs.Utf8.{char_of}
 use Rattle.lexer.specs.Lexer.{number_by}
 use Rattle.lexer.proofs.Heads.{behind_head, behind_small, digit_some, is_digit_lem}

@@ -1,5 +1,5 @@
 -- The run ends at the first place where no letter stands, or with the text.
-use Rattle.std.proofs.Common.{◌≡◌, ℕ, ◌+◌, ◌-◌, List, length, drop, take, arith, rules, refl, ◌∙◌, sym, ap, length-drop}
+use Rattle.std.proofs.Common.{◌≡◌, ℕ, ◌+◌, ◌-◌, List, length, drop, take, rules, ◌∙◌, ap, length-drop}
 use Rattle.std.specs.Prelude.{not, unwrap_or}
 use Rattle.std.proofs.lemmas.Iterator.{YieldsList-from_slice}
 use Rattle.std.proofs.lemmas.Iterator.Search.{position_from_yields_List}
@@ -7,7 +7,7 @@ use borrow.Author.Tests.{tests}
 use lib.Seq.{take_all}
 use native.Mathlib.Nat.{le_of_eq}
 use Rattle.lexer.specs.Words.{is_letter}
-use Rattle.lexer.proofs.Runs.{run_found, run_within}
+use Rattle.lexer.proofs.Runs.{run_found}
 use Rattle.lexer.proofs.run_end.Goals as goal
 
 pub returns : goal.returns

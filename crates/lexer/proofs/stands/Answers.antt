@@ -2,7 +2,7 @@
 use Rattle.std.proofs.Common.{◌≡◌, ◌≤◌, ◌-◌, ℕ, List, ◌∙◌, ap, length, drop, take, min, arith, rules, length-drop}
 use lib.Dec.{eqb}
 use Rattle.std.specs.Cmp.Lexicographic.{pointwise}
-use Rattle.lexer.specs.State.{longest_word, letters_in, word_at}
+use Rattle.lexer.specs.State.{longest_word}
 use Rattle.lexer.specs.Words.{run_end}
 use Rattle.lexer.specs.declared.Row.{Row}
 use Rattle.lexer.proofs.Runs.{run_within, word_fits}

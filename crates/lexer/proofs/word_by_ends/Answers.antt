@@ -1,11 +1,11 @@
 -- The invariant is `Trying`: trying the words from the next place on, whose word has the text's letter, gives the word of the run.
-use Rattle.std.proofs.Common.{◌≡◌, ℕ, get_or, drop, min, ◌+◌, sym, ap, ap₂, ◌∙◌, add-zero, get_or-drop}
-use Rattle.std.specs.Prelude.{Option, Some}
-use Rattle.lexer.specs.State.{longest_word, other_than}
+use Rattle.std.proofs.Common.{◌≡◌, ℕ, get_or, drop, sym, ap, ap₂, ◌∙◌, add-zero, get_or-drop}
+use Rattle.std.specs.Prelude.{Some}
+use Rattle.lexer.specs.State.{other_than}
 use Rattle.lexer.specs.Words.{match}
 use Rattle.lexer.specs.declared.Match.{Match}
 use Rattle.lexer.specs.declared.Row.{Row}
-use Rattle.lexer.proofs.Chains.{chosen-start, trying, tried_in, tried_step, tried_falls, tried_found, tried_none}
+use Rattle.lexer.proofs.Chains.{chosen-start, trying, tried_step, tried_falls, tried_found, tried_none}
 use Rattle.lexer.proofs.word_by_ends.Goals as goal
 
 pub loop-next-init : goal.loop-next-init

@@ -1,46 +1,47 @@
--- The invariant: what is left of the text decides whether the whole is well formed. A length that is not 0 is a character's (`here`), and
--- what comes behind it goes on; where it is 0 no character begins (`nowhere`).
--- Assumes nothing.
-use mathlib.Core.Path.{◌≡◌, refl, sym, ap, ◌∙◌}
-use Prim.Native.Nat.{◌-◌, ◌≤◌}
-use native.Mathlib.Omega.{arith}
-use lib.ListN.{length-drop, length, drop, drop_of_length-le}
-use lib.Seq.{drop-drop}
-use Rattle.utf8.specs.Utf8.{well_from}
-use Rattle.utf8.proofs.Laws.{well_step, well_not, found_within}
-use Rattle.utf8.proofs.Packed.{here, nowhere}
+-- The invariant: what is left of the text decides whether the whole is well formed. A character lies within the text, and what comes behind
+-- it goes on; where none stands the text has ended, or is not well formed.
+use mathlib.Core.Bool.{Bool, true, false}
+use Rattle.std.proofs.Common.{◌≡◌, ◌+◌, ◌-◌, ◌≤◌, ℕ, List, length, drop, refl, sym, ap, ◌∙◌, arith, length-drop, drop-drop}
+use lib.Dec.{eqb}
+use lib.ListN.{drop_of_length-le}
+use borrow.Author.Tests.{eqb-true, eqb-false}
+use Rattle.utf8.specs.Utf8.{char_at, well_from}
+use Rattle.utf8.specs.declared.Found.TheVariants.{Char}
+use Rattle.utf8.proofs.Laws.{found-size, found_within, well_step, well_not}
 use Rattle.utf8.proofs.well_formed.Goals as goal
 
-pub loop-at-init : goal.loop-at-init
-loop-at-init c = (omega arith, refl)
-
-pub returns-then-n-eq0 : goal.returns-then-n-eq0
-returns-then-n-eq0 c =
-    let t = c.args.text.now in
-    let i = c.loop-at.at in
+-- a character at i has a byte at least, and ends within the text
+inside : (t : List ℕ) (i c n : ℕ) → i ≤ length t → Char c n ≡ char_at t i → (1 ≤ n) × (i + n ≤ length t)
+inside t i c n h e =
     let l : length (drop i t) ≡ length t - i = length-drop i t in
-    sym (sym c.loop-at.invariant.1 ∙ well_not (drop i t) (omega arith) (nowhere (drop i t) (sym c.len_at-n.ensures ∙ c.if-n-eq0.true)))
+    (found-size (drop i t) c n (sym e), omega (arith, found_within (drop i t) c n (sym e), found-size (drop i t) c n (sym e)))
+
+-- no character stands at i
+ended : (t : List ℕ) (i : ℕ) → i ≤ length t → ((c n : ℕ) → char_at t i ≡ Char c n → ⊥) → eqb i (length t) ≡ well_from 0 (drop i t)
+unfolding well_from
+ended t i h f = go (eqb i (length t)) refl
+  where
+    go : (b : Bool) → eqb i (length t) ≡ b → b ≡ well_from 0 (drop i t)
+    go true e = sym (ap (well_from 0) (drop_of_length-le t (omega (arith, eqb-true i (length t) e))))
+    go false e =
+        let l : length (drop i t) ≡ length t - i = length-drop i t in
+        sym (well_not (drop i t) (omega (arith, eqb-false i (length t) e)) f)
 
 pub overflow_add-at : goal.overflow_add-at
-overflow_add-at c =
-    let t = c.args.text.now in
-    let i = c.loop-at.at in
-    let n = c.len_at-n.result in
-    let f = here (drop i t) n c.len_at-n.ensures c.if-n-eq0.false in
-    let w : n ≤ length (drop i t) = found_within (drop i t) f.code n f.is in
-    let l : length (drop i t) ≡ length t - i = length-drop i t in
-    omega arith
+overflow_add-at c = let b = inside c.args.text.now c.loop-n.at _ _ c.loop-n.invariant.0 c.in-Char.ensures in omega (arith, b.1)
 
-pub loop-at-preserved : goal.loop-at-preserved
-loop-at-preserved c =
+pub loop-n-smaller : goal.loop-n-smaller
+loop-n-smaller c = let b = inside c.args.text.now c.loop-n.at _ _ c.loop-n.invariant.0 c.in-Char.ensures in omega (arith, b.0, b.1)
+
+pub loop-n-preserved : goal.loop-n-preserved
+loop-n-preserved c =
     let t = c.args.text.now in
-    let i = c.loop-at.at in
-    let n = c.len_at-n.result in
-    let f = here (drop i t) n c.len_at-n.ensures c.if-n-eq0.false in
-    let w : n ≤ length (drop i t) = found_within (drop i t) f.code n f.is in
-    let l : length (drop i t) ≡ length t - i = length-drop i t in
-    (omega arith, ap (well_from 0) (sym (drop-drop n i t)) ∙ sym (well_step (drop i t) f.code n f.is) ∙ c.loop-at.invariant.1)
+    let i = c.loop-n.at in
+    let n = c.in-Char.n in (
+      (inside t i _ _ c.loop-n.invariant.0 c.in-Char.ensures).1,
+      ap (well_from 0) (sym (drop-drop n i t)) ∙ sym (well_step (drop i t) _ n (sym c.in-Char.ensures)) ∙ c.loop-n.invariant.1,
+    )
 
 pub returns : goal.returns
-unfolding well_from
-returns c = sym (sym c.loop-at.invariant.1 ∙ ap (well_from 0) (drop_of_length-le c.args.text.now c.loop-at-test.false))
+returns c =
+    ended c.args.text.now c.loop-n.at c.loop-n.invariant.0 (λ k n e. c.in_default.not-Char k n (c.char_at.ensures ∙ e)) ∙ c.loop-n.invariant.1
