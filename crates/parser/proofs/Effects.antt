@@ -5,12 +5,13 @@ use Prim.Native.Nat.{ℕ, ◌+◌, ◌-◌, ◌≤◌}
 use native.Mathlib.Omega.{arith}
 use lib.ListN.{length, take, drop}
 use Rattle.std.specs.Prelude.{Option}
+use Rattle.std.specs.Option.{unwrap_or}
 use Rattle.std.proofs.lemmas.List.{take_rest}
 use Rattle.std.specs.declared.option.Option.TheVariants as optional
 use Rattle.note.specs.declared.RootModifier.TheVariants.{Sharp, Flat}
 use Rattle.expression.specs.ParserError.{all_numbers, numbers_of}
 use Rattle.expression.specs.declared.expression.Exp.{Exp}
-use Rattle.step.proofs.Laws.{inside-small, step_small}
+use Rattle.step.proofs.Laws.{inside-small}
 use Rattle.step.specs.Bounds.{Small, gains_count}
 use Rattle.step.specs.Step.{add_step, aug_step, hyphen_step, inside_of, modifier_step, omit_step, slash_step, step_of, sus_step}
 use Rattle.step.specs.declared.effect.Effect.{Effect}
@@ -25,8 +26,8 @@ use Rattle.token.specs.declared.Bracket.TheVariants.{Opens, Closes, Ends, Other}
 use Rattle.token.specs.declared.Bracket.{Bracket}
 use Rattle.token.specs.declared.TokenType.TheVariants as type
 use Rattle.token.specs.declared.TokenType.{TokenType}
-use Rattle.parser.specs.Parser.{ahead_of, error_of, gains_of, itself}
-use Rattle.parser.specs.State.{Fits, Foreseen, effect_by, effect_in, here_in}
+use Rattle.parser.specs.Parser.{ahead_of, bracket_of, error_of, gains_of, itself}
+use Rattle.parser.specs.State.{Fits, Foreseen, bracket_by, effect_in, here_in}
 use Rattle.parser.specs.declared.state.State.{State}
 
 pub gains-length : (g : Gains) → length (gains_of g) ≡ gains_count g
@@ -74,25 +75,20 @@ told type.Bass h x y f = refl
 told type.Illegal h x y f = refl
 told type.Eof h x y f = refl
 
-told_by : (inside : Option ℕ) (k : TokenType) (h : Here) (x y : Ahead) → Foreseen k y x → effect_by inside k h x ≡ effect_by inside k h y
-told_by optional.None k h x y f = told k h x y f
-told_by (optional.Some q) k h x y f = in_bracket (bracket_kind k)
-  where
-    in_bracket : (b : Bracket) → inside_of b q k h x ≡ inside_of b q k h y
-    in_bracket Opens = refl
-    in_bracket Closes = refl
-    in_bracket Ends = refl
-    in_bracket Other = told k h x y f
-
-by_small : (inside : Option ℕ) (k : TokenType) (h : Here) (a : Ahead) → Small h (effect_by inside k h a)
-by_small optional.None k h a = step_small k h a
-by_small (optional.Some q) k h a = inside-small (bracket_kind k) q k h a
+told_by : (b : Bracket) (q : ℕ) (k : TokenType) (h : Here) (x y : Ahead) → Foreseen k y x → inside_of b q k h x ≡ inside_of b q k h y
+told_by Opens q k h x y f = refl
+told_by Closes q k h x y f = refl
+told_by Ends q k h x y f = refl
+told_by Other q k h x y f = told k h x y f
 
 -- what the token step decides of the token at st, from the tokens behind it, is its effect, and fits the state
-pub effect_at_lem : (ts : List Token) (xs : List Exp) (st : State) (inside : Option ℕ) {k : TokenType} {h : Here} (a : Ahead) {r : Effect}
-    → k ≡ type_of (at ts st.at).kind → h ≡ here_in (at ts st.at) xs st → Foreseen k (ahead_of (take (length ts - (st.at + 1)) (drop (st.at + 1) ts))) a → r ≡ effect_by inside k h a
+pub effect_at_lem : (ts : List Token) (xs : List Exp) (st : State) (inside : Option ℕ) {b : Bracket} {q : ℕ} {k : TokenType} {h : Here} (a : Ahead) {r : Effect}
+    → b ≡ bracket_by inside (bracket_of (at ts st.at)) → q ≡ unwrap_or inside 0 → k ≡ type_of (at ts st.at).kind → h ≡ here_in (at ts st.at) xs st
+    → Foreseen k (ahead_of (take (length ts - (st.at + 1)) (drop (st.at + 1) ts))) a → r ≡ inside_of b q k h a
     → (r ≡ effect_in ts xs st inside) × Fits st r
-effect_at_lem ts xs st inside {k} {h} a {r} ek eh ea er =
-    let e : r ≡ effect_in ts xs st inside = er ∙ told_by inside k h a _ (subst (λ (l : List Token). Foreseen k (ahead_of l) a) (take_rest ts (st.at + 1)) ea) ∙ (λ i. effect_by inside (ek i) (eh i) (ahead_of (drop (st.at + 1) ts))) in
-    let s = by_small inside (type_of (at ts st.at).kind) (here_in (at ts st.at) xs st) (ahead_of (drop (st.at + 1) ts)) in
+effect_at_lem ts xs st inside {b} {q} {k} {h} a {r} eb eq ek eh ea er =
+    let rest = drop (st.at + 1) ts in
+    let t = told_by b q k h a _ (subst (λ (l : List Token). Foreseen k (ahead_of l) a) (take_rest ts (st.at + 1)) ea) in
+    let e : r ≡ effect_in ts xs st inside = er ∙ t ∙ (λ i. inside_of (eb i) (eq i) (ek i) (eh i) (ahead_of rest)) in
+    let s = inside-small (bracket_by inside (bracket_of (at ts st.at))) (unwrap_or inside 0) (type_of (at ts st.at).kind) (here_in (at ts st.at) xs st) (ahead_of rest) in
     (e, subst (Fits st) (sym e) (fits_small s refl refl))
