@@ -43,7 +43,7 @@ pub fn next_of(kind: TokenType) -> Next
 }
 
 impl Next {
-    // The number of an extension; 0 where there is none, which no extension names.
+    // The number of an extension; 0 where there is none, as the definition has it.
     pub fn number(self) -> u8
         ensures { result ≡ number_in self }
     {

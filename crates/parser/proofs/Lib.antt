@@ -1,5 +1,5 @@
 -- What several proofs use.
-mod Lists
+mod Six
 pub mod Rows
 mod Effects
 mod Coded

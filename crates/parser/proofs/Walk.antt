@@ -18,8 +18,8 @@ use Rattle.token.specs.declared.Token.{Token}
 use Rattle.token.specs.declared.Bracket.TheVariants.{Opens, Closes, Ends, Other}
 use Rattle.token.specs.declared.Bracket.{Bracket}
 use Rattle.token.specs.declared.TokenType.{TokenType}
-use Rattle.parser.specs.Parser.{Parsing, ahead_of, applied, blank, bracket_of, effect_at, enter, leave, next_at, opens, parse_by, root_effect, root_of, skipping, walk}
-use Rattle.parser.specs.State.{EffectDone, Kept, Ready, TookToken, Read, Parsed, effect_by, effect_in, ends_by, here_in, stack_by, start, view}
+use Rattle.parser.specs.Parser.{Parsing, ahead_of, applied, blank, bracket_of, effect_at, ends, enter, leave, next_at, opens, parse_by, root_effect, root_of, skipping, walk}
+use Rattle.parser.specs.State.{EffectDone, Kept, Ready, TookToken, Read, Parsed, bracket_by, effect_by, effect_in, here_in, stack_by, start, view}
 use Rattle.parser.specs.declared.state.State.{State}
 use Rattle.parser.proofs.Coded.{parse_errors_lem, parse_exps}
 
@@ -29,9 +29,6 @@ unfolding walk
 skips zero stk s ts = refl
 skips (suc n) stk s [] = refl
 skips (suc n) stk s (t ∷ ts) = skips n stk s ts
-
-pub kept-none : (st : State) (es : List ℕ) (xs : List Exp) → Kept st st es es xs xs
-kept-none st es xs = record { more = omega arith; gains = omega arith; rest = refl; others = refl }
 
 pub kept_then : {st m r : State} {e₀ e₁ e₂ : List ℕ} {x₀ x₁ x₂ : List Exp} → Kept st m e₀ e₁ x₀ x₁ → Kept m r e₁ e₂ x₁ x₂ → Kept st r e₀ e₂ x₀ x₂
 kept_then {st} {m} {r} {e₀} {e₁} {e₂} {x₀} {x₁} {x₂} a b =
@@ -51,7 +48,7 @@ did_walk T stk {e} {st} {r} {es} {es'} {xs} {xs'} d =
     ∙ (λ i. walk numbers_of stk (sym d.same i) (drop (sym d.moved i) T))
 
 -- the token at the end of a bracket leaves it; outside any bracket there is none to leave
-left : (inside : Option ℕ) (b : Bracket) (stk : List ℕ) → leave b (stack_by inside stk) ≡ cond (ends_by inside b) stk (stack_by inside stk)
+left : (inside : Option ℕ) (b : Bracket) (stk : List ℕ) → leave b (stack_by inside stk) ≡ cond (ends (bracket_by inside b)) stk (stack_by inside stk)
 left (Some q) b stk = refl
 left None b stk = elim b as (λ d. leave d [] ≡ []) [ Opens ↦ refl | Closes ↦ refl | Ends ↦ refl | Other ↦ refl ]
 
@@ -60,8 +57,8 @@ effect_same (Some q) stk k h a = refl
 effect_same None stk k h a = refl
 
 -- outside any bracket no token ends one
-none-ends : (inside : Option ℕ) (b : Bracket) {A : Type 0} → ends_by inside b ≡ true → inside ≡ None → A
-none-ends inside b h n = absurd (subst IsTrue (sym h ∙ ap (λ (o : Option ℕ). ends_by o b) n) tt)
+none-ends : (inside : Option ℕ) (b : Bracket) {A : Type 0} → ends (bracket_by inside b) ≡ true → inside ≡ None → A
+none-ends inside b h n = absurd (subst IsTrue (sym h ∙ ap (λ (o : Option ℕ). ends (bracket_by o b)) n) tt)
 
 -- tokens were taken, after which the same brackets are open as before, whatever brackets are open around them
 pub record Within (ts : List Token) (inside : Option ℕ) (st r : State) (es es' : List ℕ) (xs xs' : List Exp) : Type 0 where
@@ -113,9 +110,6 @@ module _ (ts : List Token) where
         })
 
   module _ (inside : Option ℕ) where
-    pub within_none : (st : State) (es : List ℕ) (xs : List Exp) → Ready st → Within ts inside st st es es xs xs
-    within_none st es xs h = record { same = λ stk. refl; kept = kept-none st es xs; ready = h; forward = omega arith }
-
     pub within_then : {st u r : State} {es es₁ es₂ : List ℕ} {xs xs₁ xs₂ : List Exp} → Within ts inside st u es es₁ xs xs₁ → Within ts inside u r es₁ es₂ xs₁ xs₂ → Within ts inside st r es es₂ xs xs₂
     within_then a b =
         record { same = λ stk. a.same stk ∙ b.same stk; kept = kept_then a.kept b.kept; ready = b.ready; forward = omega (arith, a.forward, b.forward) }
@@ -140,7 +134,7 @@ module _ (ts : List Token) where
 
     module _ (st : State) (es : List ℕ) (xs : List Exp) (h : st.at < length ts) where
       -- one token and its effect
-      one : (stk : List ℕ) (c : Bool) → ends_by inside (bracket_of (at ts st.at)) ≡ c → walk numbers_of (stack_by inside stk) (view st es xs) (drop st.at ts)
+      one : (stk : List ℕ) (c : Bool) → ends (bracket_by inside (bracket_of (at ts st.at))) ≡ c → walk numbers_of (stack_by inside stk) (view st es xs) (drop st.at ts)
           ≡ walk numbers_of (beyond st (cond c stk (stack_by inside stk))) (applied numbers_of (effect_in ts xs st inside) (view st es xs)) (drop (st.at + 1) ts)
       one stk c o =
           let f = effect_same inside stk (type_of (at ts st.at).kind) (here_in (at ts st.at) xs st) (ahead_of (drop (st.at + 1) ts)) in
@@ -150,7 +144,7 @@ module _ (ts : List Token) where
           ∙ (λ i. walk numbers_of (beyond st (l i)) (applied numbers_of (f i) (view st es xs)) (drop (st.at + 1) ts))
 
       -- it ends the bracket
-      pub read-ends : {r : State} {es' : List ℕ} {xs' : List Exp} → ends_by inside (bracket_of (at ts st.at)) ≡ true → TookToken ts inside st r es es' xs xs'
+      pub read-ends : {r : State} {es' : List ℕ} {xs' : List Exp} → ends (bracket_by inside (bracket_of (at ts st.at))) ≡ true → TookToken ts inside st r es es' xs xs'
           → Read ts inside st r es es' xs xs'
       read-ends o t =
           record {
@@ -161,7 +155,7 @@ module _ (ts : List Token) where
           }
 
       -- it does not, and tokens are read on
-      pub within-one : {u : State} {es₁ : List ℕ} {xs₁ : List Exp} → ends_by inside (bracket_of (at ts st.at)) ≡ false → TookToken ts inside st u es es₁ xs xs₁
+      pub within-one : {u : State} {es₁ : List ℕ} {xs₁ : List Exp} → ends (bracket_by inside (bracket_of (at ts st.at))) ≡ false → TookToken ts inside st u es es₁ xs xs₁
           → Within ts inside st u es es₁ xs xs₁
       within-one o t =
           record { same = λ stk. one stk false o ∙ t.went.same (stack_by inside stk); kept = t.kept; ready = t.went.ready; forward = omega (arith, t.forward) }

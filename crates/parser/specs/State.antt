@@ -1,22 +1,24 @@
 -- Bookkeeping of contracts between our own functions; no promise of an entry point rests on it.
 -- The parser's state as values: what the code's struct and its lent arrays stand for, and what the code keeps true of them.
-use Rattle.std.specs.Prelude.{Bool, false, Option, List, [], ◌∷◌, ◌++◌, ◌≡◌, ℕ, ◌+◌, ◌*◌, ◌≤◌, ◌<◌, pos, length, take, drop}
+use Rattle.std.specs.Prelude.{false, Option, List, [], ◌∷◌, ◌++◌, ◌≡◌, ℕ, ◌+◌, ◌*◌, ◌≤◌, ◌<◌, pos, length, take, drop}
 use Rattle.std.specs.Int.Signed.{mag}
+use Rattle.std.specs.Option.{unwrap_or}
 use Rattle.std.specs.declared.option.Option.TheVariants as optional
 use Rattle.expression.specs.ParserError.{all_numbers, numbers_of}
 use Rattle.expression.specs.declared.expression.Exp.{Exp}
 use Rattle.step.specs.Bounds.{gains_count, sus_bit}
-use Rattle.step.specs.Step.{inside_of, step_of}
+use Rattle.step.specs.Step.{inside_of}
 use Rattle.step.specs.declared.context.Context.TheVariants as context
 use Rattle.step.specs.declared.effect.Effect.{Effect}
 use Rattle.step.specs.declared.effect.Here.{Here}
 use Rattle.lookahead.specs.declared.Ahead.{Ahead}
 use Rattle.token.specs.Token.{Ranged, at, bracket_kind, type_of}
 use Rattle.token.specs.declared.Token.{Token}
+use Rattle.token.specs.declared.Bracket.TheVariants.{Other}
 use Rattle.token.specs.declared.Bracket.{Bracket}
 use Rattle.token.specs.declared.TokenType.TheVariants as type
 use Rattle.token.specs.declared.TokenType.{TokenType}
-use Rattle.parser.specs.Parser.{Parsing, ahead_of, applied, bracket_of, ends, enter, last_six, parse_of, root_of, skipping, walk}
+use Rattle.parser.specs.Parser.{Parsing, ahead_of, applied, bracket_of, enter, last_six, parse_of, root_of, skipping, walk}
 use Rattle.parser.specs.declared.parser.ParseResult.{ParseResult}
 use Rattle.parser.specs.declared.state.State.{State}
 
@@ -35,15 +37,14 @@ abbrev pub stack_by : Option ℕ → List ℕ → List ℕ
 stack_by (optional.Some q) stk = q ∷ stk
 stack_by optional.None stk = []
 
--- does a token that is b to it end the bracket around it? Outside any bracket none does
-abbrev pub ends_by : Option ℕ → Bracket → Bool
-ends_by (optional.Some q) b = ends b
-ends_by optional.None b = false
+-- what a token is to the bracket around it, where it is b to one that is open; outside any bracket every token is Other
+abbrev pub bracket_by : Option ℕ → Bracket → Bracket
+bracket_by (optional.Some q) b = b
+bracket_by optional.None b = Other
 
 -- the effect of a token in the bracket opened at q, or outside any bracket
 abbrev pub effect_by : Option ℕ → TokenType → Here → Ahead → Effect
-effect_by (optional.Some q) k h a = inside_of (bracket_kind k) q k h a
-effect_by optional.None k h a = step_of k h a
+effect_by inside k h a = inside_of (bracket_by inside (bracket_kind k)) (unwrap_or inside 0) k h a
 
 -- that of the token at st
 abbrev pub effect_in : List Token → List Exp → State → Option ℕ → Effect

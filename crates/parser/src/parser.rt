@@ -1,20 +1,19 @@
 // The walk over the tokens: the root, then each token by the token step. The token step `take_token` and the bracket reader `read_tokens`
 // call each other.
-ghost use Rattle.std.specs.Prelude.{List, ◌≡◌, ◌+◌, ◌≤◌, ◌<◌, length};
-ghost use Rattle.std.specs.Int.Signed.{mag};
+ghost use Rattle.std.specs.Prelude.{List, ◌≡◌, ◌≤◌, ◌<◌, length};
 ghost use Rattle.expression.specs.declared.expression.Exp.{Exp};
-ghost use Rattle.parser.specs.Parser.{bracket_of, opens, root_effect};
-ghost use Rattle.parser.specs.State.{Ready, Space, Tokens, start, EffectDone, TookToken, Read, Parsed, effect_by, ends_by};
+ghost use Rattle.parser.specs.Parser.{bracket_of, ends, opens, root_effect};
+ghost use Rattle.parser.specs.State.{Ready, Space, Tokens, start, EffectDone, TookToken, Read, Parsed, bracket_by};
 
 use crate::apply::{apply, push_error};
 use crate::state::{State, ahead_of, here_at, next_at};
 use expression::expression::Exp;
 use expression::parser_error::ParserError;
-use lookahead::{Ahead, Next};
+use lookahead::Next;
 use note::Note;
 use step::context::Context;
-use step::effect::{Effect, Gains, Here};
-use step::step::{process_inside, process_token};
+use step::effect::{Effect, Gains};
+use step::step::process_inside;
 use token::{Bracket, Token, TokenType, bracket_kind};
 
 // How many errors and expressions the lent lists hold, and the root.
@@ -38,22 +37,21 @@ fn opens(token: Token) -> bool
     bracket_of(token) == Bracket::Opens
 }
 
-// Does the token end the bracket opened at `inside`? Where none is open, no token does.
-fn ends(inside: Option<u16>, token: Token) -> bool
-    ensures { result ≡ ends_by inside (bracket_of token) }
-{
-    inside.is_some() && matches!(bracket_of(token), Bracket::Closes | Bracket::Ends)
-}
-
-// What the token step decides of a token in the bracket opened at `inside`, or outside any.
-fn effect_of(inside: Option<u16>, kind: TokenType, h: Here, a: Ahead) -> Effect
-    requires { (h.pos + h.len < 65535) × (mag h.count < 1000) }
-    ensures { result ≡ effect_by inside kind h a }
+// What a token is to the bracket opened at `inside`. Outside any bracket every token is Other.
+fn bracket_in(inside: Option<u16>, token: Token) -> Bracket
+    ensures { result ≡ bracket_by inside (bracket_of token) }
 {
     match inside {
-        Some(pos) => process_inside(bracket_kind(kind), pos, kind, h, a),
-        None => process_token(kind, h, a),
+        Some(_) => bracket_of(token),
+        None => Bracket::Other,
     }
+}
+
+// Does the token end the bracket opened at `inside`?
+fn ends(inside: Option<u16>, token: Token) -> bool
+    ensures { result ≡ ends (bracket_by inside (bracket_of token)) }
+{
+    matches!(bracket_in(inside, token), Bracket::Closes | Bracket::Ends)
 }
 
 // The token step: decides what the token at st.at does in the bracket opened at `inside`, or outside any, does it, and has the bracket
@@ -72,7 +70,13 @@ fn take_token(
     let token = tokens[st.at];
     let kind = TokenType::from_number(token.kind);
     let ahead = ahead_of(kind, &tokens[st.at + 1..]);
-    let e = effect_of(inside, kind, here_at(token, exps, st), ahead);
+    let e = process_inside(
+        bracket_in(inside, token),
+        inside.unwrap_or(0),
+        kind,
+        here_at(token, exps, st),
+        ahead,
+    );
     let u = apply(st, e, errs, exps);
     if opens(token) {
         let r = read_tokens(tokens, u.copied(), Some(token.pos), errs, exps);

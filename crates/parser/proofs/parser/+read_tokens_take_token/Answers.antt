@@ -27,8 +27,8 @@ read_tokens-loop-s-preserved t c =
 pub read_tokens-returns : goal.read_tokens-returns
 read_tokens-returns t c = read_none c.args.tokens.now c.args.inside c.loop-s-test.false c.loop-s.invariant.0
 
-pub take_token-effect_of-e-requires : goal.take_token-effect_of-e-requires
-take_token-effect_of-e-requires t c =
+pub take_token-process_inside-e-requires : goal.take_token-process_inside-e-requires
+take_token-process_inside-e-requires t c =
     let a = c.args in
     let p = c.requires in
     let r = ranged-at 1000 1000 a.tokens.now p.0.ranged a.st.at p.1 in
@@ -39,7 +39,7 @@ take_token-apply-u-requires t c =
     let a = c.args in
     let p = c.requires in
     let f = effect_at_lem a.tokens.now a.exps.now a.st a.inside c.ahead_of-ahead.result
-    c.from_number-kind.ensures c.here_at.ensures c.ahead_of-ahead.ensures c.effect_of-e.ensures in
+    c.bracket_in.ensures c.unwrap_or.ensures c.from_number-kind.ensures c.here_at.ensures c.ahead_of-ahead.ensures c.process_inside-e.ensures in
     (p.2, omega (arith, p.0.few, p.1), f.1, p.3)
 
 pub take_token-returns-then-opens : goal.take_token-returns-then-opens
@@ -47,7 +47,7 @@ take_token-returns-then-opens t c =
     let a = c.args in
     took_bracket a.tokens.now a.inside a.st a.errs.now a.exps.now
     (effect_at_lem a.tokens.now a.exps.now a.st a.inside c.ahead_of-ahead.result
-    c.from_number-kind.ensures c.here_at.ensures c.ahead_of-ahead.ensures c.effect_of-e.ensures).0
+    c.bracket_in.ensures c.unwrap_or.ensures c.from_number-kind.ensures c.here_at.ensures c.ahead_of-ahead.ensures c.process_inside-e.ensures).0
     (sym c.opens.ensures ∙ c.if-opens.true)
     c.apply-u.ensures c.copied.ensures c.read_tokens-r.ensures c.copied-then-opens.ensures
 
@@ -56,6 +56,6 @@ take_token-returns t c =
     let a = c.args in
     took_alone a.tokens.now a.inside a.st a.errs.now a.exps.now
     (effect_at_lem a.tokens.now a.exps.now a.st a.inside c.ahead_of-ahead.result
-    c.from_number-kind.ensures c.here_at.ensures c.ahead_of-ahead.ensures c.effect_of-e.ensures).0
+    c.bracket_in.ensures c.unwrap_or.ensures c.from_number-kind.ensures c.here_at.ensures c.ahead_of-ahead.ensures c.process_inside-e.ensures).0
     (sym c.opens.ensures ∙ c.if-opens.false)
     c.apply-u.ensures

@@ -1,6 +1,6 @@
 -- By whether there is an expression.
 use Rattle.std.proofs.Common.{sym, ap, ◌∙◌}
-use Rattle.parser.proofs.Lists.{last_six-none, last_six-at}
+use Rattle.parser.proofs.Six.{last_six-none, last_six-at}
 use Rattle.parser.specs.Parser.{is_six}
 use Rattle.parser.proofs.state.last_is_six.Goals as goal
 
