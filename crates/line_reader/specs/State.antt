@@ -1,5 +1,6 @@
 -- What the code gave: the reader's step, its bar as a part of the line, and the reader after it.
-use Rattle.std.specs.Prelude.{Bor, List, ◌≡◌, ℕ}
+use Rattle.std.specs.Borrow.{Bor}
+use Rattle.std.specs.Prelude.{List, ◌≡◌, ℕ}
 use Rattle.bars.specs.Bars.{place_at}
 use Rattle.bars.specs.State.{Part}
 use Rattle.song.specs.State.{Step, Stepped, shown}

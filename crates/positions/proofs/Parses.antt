@@ -17,7 +17,7 @@ use Rattle.parser.specs.Parser.{Parsing, ahead_of, applied, blank, effect_at, en
 use Rattle.step.specs.declared.context.Context.{Context}
 use Rattle.step.specs.declared.effect.Effect.{Effect}
 use Rattle.step.specs.declared.effect.Gains.{Gains}
-use Rattle.step.specs.declared.effect.OptionalError.{OptionalError}
+use Rattle.step.specs.Effect.{OptionalError}
 use Rattle.token.specs.Token.{at, bracket_kind, type_of}
 use Rattle.token.specs.declared.Token.{Token}
 use Rattle.token.specs.declared.TokenType.{TokenType}

@@ -34,8 +34,7 @@ use Rattle.step.specs.declared.effect.Effect.{Effect}
 use Rattle.step.specs.declared.effect.Gains.TheVariants as gains
 use Rattle.step.specs.declared.effect.Gains.{Gains}
 use Rattle.step.specs.declared.effect.Here.{Here}
-use Rattle.step.specs.declared.effect.OptionalError.TheVariants as error
-use Rattle.step.specs.declared.effect.OptionalError.{OptionalError}
+use Rattle.step.specs.Effect.{OptionalError}
 use Rattle.token.specs.declared.Bracket.TheVariants.{Opens, Closes, Ends, Other}
 use Rattle.token.specs.declared.Bracket.{Bracket}
 use Rattle.token.specs.declared.TokenType.TheVariants as type
@@ -69,8 +68,8 @@ module _ (f g : ℕ → ℕ) where
     two : {e d e' d' : Exp} → SameExp e d → SameExp e' d' → SameGains (gains.Two e e') (gains.Two d d')
 
   pub data SameOptional : OptionalError → OptionalError → Type 0 where
-    fine : SameOptional error.None error.None
-    wrong : {e d : ParserError} → SameError e d → SameOptional (error.Some e) (error.Some d)
+    fine : SameOptional optional.None optional.None
+    wrong : {e d : ParserError} → SameError e d → SameOptional (optional.Some e) (optional.Some d)
 
   pub record SameEffect (e d : Effect) : Type 0 where
     pub taken : e.taken ≡ d.taken

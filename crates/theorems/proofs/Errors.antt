@@ -30,8 +30,7 @@ use Rattle.step.specs.declared.context.Context.TheVariants as context
 use Rattle.step.specs.declared.context.Context.{Context}
 use Rattle.step.specs.declared.effect.Effect.{Effect}
 use Rattle.step.specs.declared.effect.Here.{Here}
-use Rattle.step.specs.declared.effect.OptionalError.TheVariants as error
-use Rattle.step.specs.declared.effect.OptionalError.{OptionalError}
+use Rattle.step.specs.Effect.{OptionalError}
 use Rattle.token.specs.Token.{bracket_kind, type_of}
 use Rattle.token.specs.declared.Token.{Token}
 use Rattle.token.specs.declared.Bracket.TheVariants.{Opens, Closes, Ends, Other}
@@ -59,8 +58,8 @@ kind_at (e ∷ l) o (suc i) h =
 -- ---- the effect of a token
 
 abbrev Fine : OptionalError → Type 0
-Fine error.None = Unit
-Fine (error.Some e) = Occurs e
+Fine optional.None = Unit
+Fine (optional.Some e) = Occurs e
 
 abbrev Calm : Effect → Type 0
 Calm e = Fine e.error
@@ -137,8 +136,8 @@ effect_calm (q ∷ qs) k h a = inside_calm (bracket_kind k) q k h a
 -- ---- the tokens
 
 error_occurs : (e : OptionalError) → Fine e → All Occurs (error_of itself e)
-error_occurs error.None f = tt
-error_occurs (error.Some e) f = (f, tt)
+error_occurs optional.None f = tt
+error_occurs (optional.Some e) f = (f, tt)
 
 turn_occur : (n : ℕ) (stk : List ℕ) (s : Parsing ParserError) (t : Token) (ts : List Token) → All Occurs s.errs
     → All Occurs (token_turn itself n stk s t ts).errs
