@@ -23,7 +23,6 @@ use Rattle.writer.specs.Writer as writer
 use Rattle.writer.specs.Writer.{Answer as Written, WriteOutcome, number, refused, write_of}
 use Rattle.writer.specs.declared.Refusal.TheVariants.{ShortBuffer, NoText}
 use Rattle.writer.specs.declared.Refusal.{Refusal}
-use Rattle.nophtris.proofs.Bytes.{chord-length}
 use Rattle.nophtris.specs.Boundary.{answer_to, chord_bytes, four_in, inside, values_in, write_in}
 use Rattle.nophtris.specs.State.{GaveRead, GaveWritten}
 
@@ -34,9 +33,6 @@ pub put_all : {r : ℕ} (t : List ℕ) {bs bs' : List ℕ} → length bs ≡ len
 put_all t {bs} e w =
     let h : length bs ≤ length t = omega (arith, e) in
     put_whole w ∙ ap (λ (q : List ℕ). t ++ q) (drop_of_length-le bs h) ∙ append-nil t
-
-pub chord-whole : (f : Four) {bs bs' : List ℕ} → length bs ≡ 51 → Put 0 51 (chord_bytes f) bs bs' → bs' ≡ chord_bytes f
-chord-whole f e w = put_all (chord_bytes f) (e ∙ sym (chord-length f)) w
 
 -- what the answer v makes of the count and of the record
 abbrev counts : ℕ → ℕ → ℕ → ℕ
