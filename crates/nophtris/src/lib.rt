@@ -254,10 +254,7 @@ fn is_inside(bytes: &[u8]) -> bool
     requires { length bytes.now ≡ 51 }
     ensures { result ≡ inside bytes.now }
 {
-    is_note(bytes[0], bytes[1])
-        && is_note(bytes[2], bytes[3])
-        && bytes[27] <= 23
-        && is_set(bytes)
+    is_note(bytes[0], bytes[1]) && is_note(bytes[2], bytes[3]) && bytes[27] <= 23 && is_set(bytes)
 }
 
 // The record that the bytes hold, if they hold one.

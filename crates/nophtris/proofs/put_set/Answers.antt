@@ -1,5 +1,5 @@
 -- Each number's byte goes behind those before it; there is room for 23.
-use Rattle.std.proofs.Common.{◌≡◌, ℕ, ◌+◌, Bool, cond, ap, ◌∙◌, List, [], ◌∷◌, ◌++◌, arith}
+use Rattle.std.proofs.Common.{◌≡◌, ℕ, Bool, cond, ap, ◌∙◌, [], ◌∷◌, ◌++◌, arith}
 use Rattle.intervals.specs.Stored.{members}
 use Rattle.nophtris.specs.Boundary.{set_bytes}
 use Rattle.nophtris.proofs.Bytes.{byte_is, set-length, set_next}
