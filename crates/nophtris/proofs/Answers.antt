@@ -22,10 +22,8 @@ use Rattle.writer.specs.State.{WriteGave, Put}
 use Rattle.writer.specs.Writer as writer
 use Rattle.writer.specs.Writer.{Answer as Written, WriteOutcome, number, refused, write_of}
 use Rattle.writer.specs.declared.Refusal.TheVariants.{ShortBuffer, NoText}
-use Rattle.writer.specs.declared.Refusal.{Refusal}
-use Rattle.nophtris.proofs.Bytes.{chord-length}
 use Rattle.nophtris.specs.Boundary.{answer_to, chord_bytes, four_in, inside, values_in, write_in}
-use Rattle.nophtris.specs.State.{GaveRead, GaveWritten}
+use Rattle.nophtris.specs.State.{GaveRead}
 
 -- ---- reading
 
@@ -34,9 +32,6 @@ pub put_all : {r : ℕ} (t : List ℕ) {bs bs' : List ℕ} → length bs ≡ len
 put_all t {bs} e w =
     let h : length bs ≤ length t = omega (arith, e) in
     put_whole w ∙ ap (λ (q : List ℕ). t ++ q) (drop_of_length-le bs h) ∙ append-nil t
-
-pub chord-whole : (f : Four) {bs bs' : List ℕ} → length bs ≡ 51 → Put 0 51 (chord_bytes f) bs bs' → bs' ≡ chord_bytes f
-chord-whole f e w = put_all (chord_bytes f) (e ∙ sym (chord-length f)) w
 
 -- what the answer v makes of the count and of the record
 abbrev counts : ℕ → ℕ → ℕ → ℕ
@@ -114,20 +109,6 @@ module _ (cs bs : List ℕ) where
         → WriteGave (write_in (length bs) cs) r bs bs'
     held_some {f} {r} {bs'} e g =
         subst (λ (o : WriteOutcome). WriteGave o r bs bs') (long_buffer (length bs) f h ∙ sym (long_buffer_in (length bs) cs h ∙ ap answer_to e)) g
-
--- at the boundary a spelling's length is written, and else none
-pub gave_written : {o : WriteOutcome} {bs bs' : List ℕ} {n : ℕ} (l : ℕ) → WriteGave o (Ok n) bs bs' → GaveWritten o 0 bs bs' l n
-gave_written {o} {bs} {bs'} {n} l g =
-    record { number = g.number; buffer = g.buffer; size = λ i. cond (eqb (g.number i) 0) (g.size i) l }
-
-no-length : (e : Refusal) (l : ℕ) → l ≡ cond (eqb (number e) 0) 0 l
-no-length ShortBuffer l = refl
-no-length NoText l = refl
-
-pub gave_unwritten : {o : WriteOutcome} {bs bs' : List ℕ} {n : ℕ} (e : Refusal) (l : ℕ) → n ≡ number e → WriteGave o (Err e) bs bs'
-    → GaveWritten o n bs bs' l l
-gave_unwritten e l k g =
-    record { number = k ∙ g.number; buffer = g.buffer; size = no-length e l ∙ (λ i. cond (eqb (g.number i) 0) (g.size i) l) }
 
 -- the house spelling is short
 few-of : (f : Four) → (writer.answer_to f).length ≤ 112

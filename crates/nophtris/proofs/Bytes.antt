@@ -1,17 +1,18 @@
 -- The bytes of a record, and the record of bytes: one number, one set and one list at a time.
 -- Assumes nothing.
-use mathlib.Core.Bool.{Bool, true, false, cond, ◌&&◌, ◌||◌}
+use mathlib.Core.Bool.{Bool, true, false, false≢true, cond, ◌&&◌, ◌||◌}
 use mathlib.Core.List.{List, [], ◌∷◌, ◌++◌}
 use mathlib.Core.Path.{◌≡◌, refl, sym, ap, ap₂, ◌∙◌}
 use Prim.Native.Nat.{ℕ, zero, suc, ◌+◌, ◌-◌, ◌≤◌, ◌<◌, zero-le}
 use native.Mathlib.Omega.{arith}
 use lib.Dec.{eqb, leb, ltb}
 use lib.ListN.{drop, get_or, length, length-append, replicate, take, take-append-drop}
-use lib.Seq.{length-take-le}
+use lib.Seq.{get_or-drop, get_or-take, length-take-le}
 use borrow.Author.Tests.{eqb-false, eqb-true, le-leb, leb-true, le-ltb, lt-ltb, ltb-true, ltb-false}
 use Rattle.std.proofs.lemmas.List.{drop-replicate, take-replicate}
 use Rattle.std.proofs.Math.Seq.{take-append_seam, take-append-add}
 use Rattle.std.specs.Prelude.{◌↔◌, EachIndex}
+use Rattle.std.specs.Int.{from_bool}
 use Rattle.house_parts.proofs.Tests.{same_answer}
 use Rattle.chord.specs.Chord.{Four}
 use Rattle.intervals.specs.Stored.{listed}
@@ -38,12 +39,22 @@ pub set_at : (s : Set) (j : ℕ) → j < 23 → get_or (set_bytes 23 0 s) j 0 �
 set_at s j h = let e : 0 + j ≡ j = omega arith in set-from 23 0 j s h ∙ ap (λ (k : ℕ). cond (s k) 1 0) e
 
 -- one number more
-pub set_more : (n i : ℕ) (s : Set) → set_bytes n i s ++ (cond (s (i + n)) 1 0 ∷ []) ≡ set_bytes (suc n) i s
+set_more : (n i : ℕ) (s : Set) → set_bytes n i s ++ (cond (s (i + n)) 1 0 ∷ []) ≡ set_bytes (suc n) i s
 set_more zero i s = let e : i + 0 ≡ i = omega arith in ap (λ (k : ℕ). cond (s k) 1 0 ∷ []) e
 set_more (suc n) i s =
     let e : i + suc n ≡ suc i + n = omega arith in
     ap (λ (k : ℕ). cond (s i) 1 0 ∷ (set_bytes n (suc i) s ++ (cond (s k) 1 0 ∷ []))) e
     ∙ ap (λ (q : List ℕ). cond (s i) 1 0 ∷ q) (set_more n (suc i) s)
+
+pub set_next : (n : ℕ) (s : Set) → set_bytes n 0 s ++ (cond (s n) 1 0 ∷ []) ≡ set_bytes (n + 1) 0 s
+set_next n s =
+    let e : n ≡ 0 + n = omega arith in
+    let k : suc n ≡ n + 1 = omega arith in
+    ap (λ (j : ℕ). set_bytes n 0 s ++ (cond (s j) 1 0 ∷ [])) e ∙ set_more n 0 s ∙ ap (λ (j : ℕ). set_bytes j 0 s) k
+
+pub byte_is : (b : Bool) → from_bool b ≡ cond b 1 0
+byte_is true = refl
+byte_is false = refl
 
 -- the numbers of a list, and zeros up to 23
 abbrev zeros : List ℕ
@@ -57,7 +68,7 @@ list_length d = length-take-le 23 (d ++ zeros) (omega (arith, length-append d ze
 
 -- the first numbers of the array and the last of 23 zeros
 pub list_parts : (l : IntervalList) (n : ℕ) → n ≡ length (listed l) → n ≤ 23
-    → (n ∷ []) ++ (take n l.numbers ++ drop n zeros) ≡ list_bytes (listed l)
+    → (n ∷ []) ++ (take n l.numbers ++ take (23 - n) (drop n zeros)) ≡ list_bytes (listed l)
 unfolding listed
 list_parts l n e h =
     let d = listed l in
@@ -65,7 +76,9 @@ list_parts l n e h =
     ap₂ take e (sym (take-append-drop l.len l.numbers)) ∙ take-append_seam d (drop l.len l.numbers)
     in
     let m : length d + (23 - n) ≡ 23 = omega (arith, e, h) in
-    let z : drop n zeros ≡ take (23 - n) zeros = drop-replicate n 23 0 ∙ sym (take-replicate (23 - n) 23 0 (omega arith)) in
+    let z : take (23 - n) (drop n zeros) ≡ take (23 - n) zeros =
+    ap (take (23 - n)) (drop-replicate n 23 0) ∙ take-replicate (23 - n) (23 - n) 0 (omega arith) ∙ sym (take-replicate (23 - n) 23 0 (omega arith))
+    in
     let p : d ++ take (23 - n) zeros ≡ padded d = sym (take-append-add d zeros (23 - n)) ∙ ap (λ (k : ℕ). take k (d ++ zeros)) m in
     ap₂ (λ (k : ℕ) (q : List ℕ). k ∷ q) e (ap₂ (λ (a b : List ℕ). a ++ b) t z ∙ p)
 
@@ -82,6 +95,10 @@ chord-length f =
     let s = set_bytes 23 0 f.normalized in
     let d = list_bytes f.display in
     omega (arith, note_length f.root, note_length f.bass, set-length 23 0 f.normalized, list_length f.display, length-append a (b ++ (s ++ d)), length-append b (s ++ d), length-append s d)
+
+-- a byte of the 23 behind the fourth
+pub byte_at : (bs : List ℕ) (i : ℕ) → i < 23 → get_or (take 23 (drop 4 bs)) i 0 ≡ get_or bs (4 + i) 0
+byte_at bs i h = get_or-take 23 (drop 4 bs) i 0 h ∙ get_or-drop 4 bs i 0
 
 -- ---- bits: each byte is at most 1
 
@@ -120,7 +137,7 @@ unfolding insert
 with_next t true s i k e = ap (λ (x : Bool). x || s k) e
 with_next t false s i k e = refl
 
-pub inserted : (s : Set) (f : ℕ → Bool) (i : ℕ) → ((k : ℕ) → s k ≡ ltb k i && f k) → (k : ℕ) → cond (f i) (insert s i) s k ≡ ltb k (i + 1) && f k
+inserted : (s : Set) (f : ℕ → Bool) (i : ℕ) → ((k : ℕ) → s k ≡ ltb k i && f k) → (k : ℕ) → cond (f i) (insert s i) s k ≡ ltb k (i + 1) && f k
 inserted s f i v k = go (eqb i k) refl
   where
     at : (b : Bool) → b && true || false ≡ b
@@ -145,3 +162,11 @@ inserted s f i v k = go (eqb i k) refl
         ∙ off (f i) (s k)
         ∙ v k
         ∙ ap (λ (t : Bool). t && f k) (further k i (λ q. eqb-false i k e (sym q)))
+
+pub member_next : (s t : Set) (f : ℕ → Bool) (i : ℕ) → ((k : ℕ) → s k ≡ ltb k i && f k) → f i ≡ true → t ≡ insert s i
+    → (k : ℕ) → t k ≡ ltb k (i + 1) && f k
+member_next s t f i v b e k =
+    ap (λ (q : Set). q k) e ∙ ap (λ (x : Bool). cond x (insert s i) s k) (sym b) ∙ inserted s f i v k
+
+pub none_next : (s : Set) (f : ℕ → Bool) (i : ℕ) → ((k : ℕ) → s k ≡ ltb k i && f k) → f i ≡ false → (k : ℕ) → s k ≡ ltb k (i + 1) && f k
+none_next s f i v b k = ap (λ (x : Bool). cond x (insert s i) s k) (sym b) ∙ inserted s f i v k

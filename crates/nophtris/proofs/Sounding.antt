@@ -3,7 +3,7 @@
 use mathlib.Core.Bool.{Bool, true, false, cond}
 use mathlib.Core.List.{List}
 use mathlib.Core.Option.{Option, none, some}
-use mathlib.Core.Path.{◌≡◌, refl, sym, ap, ap₂, ◌∙◌, subst}
+use mathlib.Core.Path.{◌≡◌, refl, sym, ap₂, ◌∙◌, subst}
 use Prim.Native.Nat.{ℕ}
 use lib.Dec.{eqb}
 use lib.ListN.{length}
@@ -21,15 +21,15 @@ use Rattle.nophtris.specs.Boundary.{four_in, inside, next_from, next_in, values_
 use Rattle.nophtris.specs.State.{GaveNext}
 
 -- the bytes hold no four, or they hold f
-pub held_none : {h : Option Four} {room base : ℕ} (k : Keys) (bs : List ℕ) → h ≡ none
+pub held_none : {h : Option Four} (room base : ℕ) (k : Keys) (bs : List ℕ) → h ≡ none
     → NextGave (next_from room (members k) base h) (record { answer = Err NoText; keys = k }) bs bs
-held_none {h} {room} {base} k bs e =
+held_none {h} room base k bs e =
     subst (λ (h : Option Four). NextGave (next_from room (members k) base h) (record { answer = Err NoText; keys = k }) bs bs) (sym e)
     (record { number = refl; size = refl; keys = refl; output = refl })
 
-pub held_some : {h : Option Four} {f : Four} {room base : ℕ} (s : Set) {r : Step} {bs bs' : List ℕ} → h ≡ some f
+pub held_some : {h : Option Four} {f : Four} (room base : ℕ) (s : Set) {r : Step} {bs bs' : List ℕ} → h ≡ some f
     → NextGave (next_of room s base f) r bs bs' → NextGave (next_from room s base h) r bs bs'
-held_some {h} {f} {room} {base} s {r} {bs} {bs'} e g = subst (λ (h : Option Four). NextGave (next_from room s base h) r bs bs') (sym e) g
+held_some {h} {f} room base s {r} {bs} {bs'} e g = subst (λ (h : Option Four). NextGave (next_from room s base h) r bs bs') (sym e) g
 
 -- the length of the messages and the keys are written where there are some, and else nothing
 module _ (ss : List ℕ) (base : ℕ) (cs bs : List ℕ) (l : ℕ) where

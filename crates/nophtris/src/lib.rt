@@ -5,7 +5,7 @@ ghost use Rattle.std.specs.Prelude.{◌≡◌, ◌+◌, ◌≤◌, MatchOption, 
 ghost use Rattle.std.proofs.Math.Option.{none, some};
 ghost use Rattle.chord.specs.Chord.{four_of};
 ghost use Rattle.intervals.specs.Stored.{members, listed};
-ghost use Rattle.writer.specs.State.{Grew, Put, WriteGave};
+ghost use Rattle.writer.specs.State.{Grew, WriteGave};
 ghost use Rattle.midi.specs.State.{NextGave};
 ghost use Rattle.endings.specs.Endings.{number_of};
 ghost use Rattle.keys.specs.Stored.{keys_bytes};
@@ -68,8 +68,8 @@ fn put_list(out: &mut Buffer, list: IntervalList)
 }
 
 fn encode(chord: Chord, bytes: &mut [u8])
-    requires { 51 ≤ length bytes.old }
-    ensures { Put 0 51 (chord_bytes (four_of chord)) bytes.old bytes.new }
+    requires { length bytes.old ≡ 51 }
+    ensures { bytes.new ≡ chord_bytes (four_of chord) }
 {
     let mut out = Buffer::new(bytes);
     put_note(&mut out, chord.root);
@@ -254,10 +254,7 @@ fn is_inside(bytes: &[u8]) -> bool
     requires { length bytes.now ≡ 51 }
     ensures { result ≡ inside bytes.now }
 {
-    is_note(bytes[0], bytes[1])
-        && is_note(bytes[2], bytes[3])
-        && bytes[27] <= 23
-        && is_set(bytes)
+    is_note(bytes[0], bytes[1]) && is_note(bytes[2], bytes[3]) && bytes[27] <= 23 && is_set(bytes)
 }
 
 // The record that the bytes hold, if they hold one.

@@ -1,5 +1,4 @@
 -- The count, the numbers and the zeros, one after the other.
-use Rattle.std.proofs.Common.{ℕ, sym, ap, ◌∙◌, arith, length}
 use Rattle.nophtris.proofs.Bytes.{list_parts}
 use Rattle.writer.proofs.Puts.{grew_as, grew_then}
 use Rattle.nophtris.proofs.put_list.Goals as goal

@@ -1,8 +1,8 @@
 -- Sixteen bytes, each the set's.
-use Rattle.std.proofs.Common.{ℕ, sym, ap, ◌∙◌, arith, length}
+use Rattle.std.proofs.Common.{sym, ◌∙◌, arith}
 use Rattle.std.proofs.lemmas.List.{ext_get_or}
 use Rattle.keys.proofs.Octets.{keys-at}
-use Rattle.keys.specs.Stored.{keys_bytes, members}
+use Rattle.keys.specs.Stored.{members}
 use Rattle.nophtris.proofs.put_sounding.Goals as goal
 
 pub returns : goal.returns
