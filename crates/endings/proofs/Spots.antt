@@ -10,10 +10,9 @@ use lib.ListN.{length}
 use borrow.Author.Tests.{lt-ltb, le-ltb, ltb-true, ltb-false}
 use Rattle.bars.proofs.Laws.{end-within}
 use Rattle.bars.specs.Bars.{longest_line}
-use Rattle.bars.specs.State.{Line, Part}
 use Rattle.endings.proofs.Starts.{end_at_start, start-within}
 use Rattle.endings.specs.Endings.{bar_count, bar_of, nowhere, spot_in, spot_of, start_of}
-use Rattle.endings.specs.State.{Fits, line_of, spot_from, StartIn}
+use Rattle.endings.specs.State.{Fits, spot_from, StartIn}
 use Rattle.endings.specs.declared.Answer.TheVariants.{TooLong, NoBar, Body, Ending}
 use Rattle.endings.specs.declared.Answer.{Answer}
 use Rattle.endings.specs.declared.Spot.{Spot}
@@ -128,15 +127,6 @@ spot_fits body ending k = by (way body ending k)
 
 pub spot-ordered : {s : Spot} (body ending : List ℕ) (k : ℕ) → s ≡ spot_of body ending k → s.from ≤ s.to
 spot-ordered body ending k e = subst (λ (x : Spot). x.from ≤ x.to) (sym e) (spot_fits body ending k).ordered
-
--- what is said of the line of an answer is said of the line that the answer is known to name
-module _ (s : Spot) (a : Answer) (e : s.answer ≡ a) where
-  pub fits_in : (body ending : List ℕ) → Fits s body ending → (s.from ≤ s.to) × (s.to ≤ length (line_of a body ending))
-  fits_in body ending f = (f.ordered, subst (λ (x : Answer). s.to ≤ length (line_of x body ending)) e f.within)
-
-  pub part_in : (body ending r : Line) → Part (line_of a body ending) s.from s.to r
-      → Part (line_of s.answer body ending) s.from s.to r
-  part_in body ending r p = subst (λ (x : Answer). Part (line_of x body ending) s.from s.to r) (sym e) p
 
 -- what `spot_of` asks for
 pub ruleset found = (found_body, found_ending, found_none, found_within)

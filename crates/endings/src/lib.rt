@@ -19,8 +19,8 @@ pub enum Answer {
 }
 
 // The answer to a bar number, and where the bar lies in the line that has it, from its first byte to the one behind its last. Without a
-// bar that is 0 to 0: no Result, since the bar of every answer is the part of a line at its spot (`BarAt`), and the theorems on the bars in
-// order (`SpotsInOrder`, `BarsInOrder`) speak of every answer's.
+// bar that is 0 to 0. No Result: `bar_of` hands out the part at the spot of any answer (`BarAt`), and theorems speak of the answer of every
+// spot (`SpotByNumber`, `EachOnce`, `BarsInOrder`).
 #[derive(Clone, Copy)]
 pub struct Spot {
     pub answer: Answer,

@@ -20,14 +20,14 @@ pub record Folding (m r : ℕ) (R₀ R : List Token) (o : Out) (i : ℕ) : Type 
   pub counted : Counted m o R
 
 module _ (m r : ℕ) where
-  pub folding_start : (R : List Token) (o : Out) → (o.at ≡ 0) × ((o.partners ≡ 0) × (o.sevens ≡ 0)) → Folding m r R R o 0
+  pub folding_start : (R : List Token) (o : Out) → o.at ≡ 0 → o.partners ≡ 0 → o.sevens ≡ 0 → Folding m r R R o 0
   unfolding count
-  folding_start R o z =
-      let none : take o.at R ≡ [] = ap (λ (k : ℕ). take k R) z.0 in
+  folding_start R o a p q =
+      let none : take o.at R ≡ [] = ap (λ (k : ℕ). take k R) a in
       record {
-        low = omega (arith, z.0);
+        low = omega (arith, a);
         same = ap (λ (l : List Token). fold_on m r l R) none;
-        counted = record { partners = z.1.0 ∙ sym (ap (count m) none); sevens = z.1.1 ∙ sym (ap (count seven) none) };
+        counted = record { partners = p ∙ sym (ap (count m) none); sevens = q ∙ sym (ap (count seven) none) };
       }
 
   pub folding_step : {R₀ R R' : List Token} {o o' : Out} {i : ℕ} → i < length R → Folding m r R₀ R o i → Stepped m r i o o' R R' → Folding m r R₀ R' o' (i + 1)
@@ -48,3 +48,6 @@ module _ (m r : ℕ) where
         list = sym (ap (fold_on m r (take o.at R)) (drop_of_length-le R h)) ∙ F.same;
         fewer = omega (arith, F.low);
       }
+
+-- what the loop asks for
+pub ruleset folding = (folding_step, folding_end)

@@ -60,18 +60,18 @@ module _ (R : List Token) (i : ℕ) (h : i < length R) where
   ]
 
 module _ (R : List Token) (w i : ℕ) (b : w ≤ i) (h : i < length R) where
-  took : (e : ℕ) (t : Token) → concat (drop i R) ≡ t ∷ concat (drop e R) → i < e → e ≤ length R → TookFirst i w e R (set R w t)
-  took e t l g k =
+  took-one : (e : ℕ) (t : Token) → concat (drop i R) ≡ t ∷ concat (drop e R) → i < e → e ≤ length R → TookFirst i w e R (set R w t)
+  took-one e t l g k =
       let a : at (set R w t) w ≡ t = get_or-set_same R w t (token 0 0 0) (omega arith) in
       record { list = l ∙ ap (λ (x : Token). x ∷ concat (drop e R)) (sym a); only = ap (set R w) (sym a); more = g; most = k }
 
   pub took-whole : joins_at R i ≡ true → TookFirst i w (i + 2) R (set R w (maj7_with (at R i) (at R (i + 1))))
   took-whole e =
       let g : i + 1 < length R = next_there R i h e in
-      took (i + 2) (maj7_with (at R i) (at R (i + 1))) (concat-joins R i h e) (omega arith) (omega arith)
+      took-one (i + 2) (maj7_with (at R i) (at R (i + 1))) (concat-joins R i h e) (omega arith) (omega arith)
 
   pub took-kept : joins_at R i ≡ false → TookFirst i w (i + 1) R (set R w (at R i))
-  took-kept e = took (i + 1) (at R i) (concat_keeps R i h e) (omega arith) (omega arith)
+  took-kept e = took-one (i + 1) (at R i) (concat_keeps R i h e) (omega arith) (omega arith)
 
 -- what the loop keeps true: R₀ are the tokens at its start
 pub record Joining (R₀ R : List Token) (w i : ℕ) : Type 0 where
@@ -108,3 +108,8 @@ pub still_short : {R₀ R : List Token} {w i : ℕ} → length R ≡ length R₀
 still_short {R₀} {R} {w} {i} n J S j h g =
     let e : (at R j).len ≡ (at R₀ j).len = ap (λ (x : Token). x.len) (at-later R R₀ w j (token 0 0 0) (omega (arith, J.low)) J.rest) in
     omega (arith, S j (omega arith))
+
+-- what a turn of the loop, and the loop, ask for
+pub ruleset took = (took-whole, took-kept)
+
+pub ruleset joining = (joining_start, joining_step, joining_end, still_short)

@@ -112,6 +112,7 @@ fn step(tokens: &mut [Token], fold: Fold, o: Out, i: usize) -> Out
 }
 
 // Pairs each 7 with a partner; how many tokens are left is returned.
+#[tactic(auto, using(crate::proofs::Turns::folding))]
 fn fold_7(tokens: &mut [Token], fold: Fold) -> usize
     ensures { Turned (fold7 fold.partner fold.pair) result tokens.old tokens.new }
 {
@@ -139,6 +140,7 @@ fn joins(tokens: &[Token], i: usize) -> bool
 }
 
 // Puts at w what comes first of the tokens from i on; the place of the next one is returned.
+#[tactic(auto, using(crate::proofs::Wholes::took))]
 fn take_one(tokens: &mut [Token], w: usize, i: usize) -> usize
     requires room { (w ≤ i) × (i < length tokens.old) }
     requires short { (j : ℕ) → i ≤ j → j < length tokens.old → (token_at tokens.old j).len ≤ 256 }
@@ -157,6 +159,7 @@ fn take_one(tokens: &mut [Token], w: usize, i: usize) -> usize
 }
 
 // Each Maj or Maj7 takes in a 7 right after it.
+#[tactic(auto, using(crate::proofs::Wholes::joining))]
 fn concat_maj7(tokens: &mut [Token]) -> usize
     requires { Short tokens.old }
     ensures { Turned concat result tokens.old tokens.new }
