@@ -20,7 +20,7 @@ use Rattle.step.specs.declared.effect.Gains.{Gains}
 use Rattle.step.specs.declared.effect.Here.{Here}
 use Rattle.step.specs.Effect.{OptionalError}
 use Rattle.lookahead.specs.declared.Ahead.{Ahead}
-use Rattle.token.specs.Token.{at, bracket_kind, type_of}
+use Rattle.token.specs.Token.{at, type_of}
 use Rattle.token.specs.declared.Token.{Token}
 use Rattle.token.specs.declared.Bracket.TheVariants.{Opens, Closes, Ends, Other}
 use Rattle.token.specs.declared.Bracket.{Bracket}

@@ -91,13 +91,15 @@ module _ (ts : List Token) where
         ∙ did_walk ts (cond c ((at ts st.at).pos ∷ stk) stk) d
 
     -- it opens none
-    pub took_alone : {r : State} {es' : List ℕ} {xs' : List Exp} → opens (bracket_of (at ts st.at)) ≡ false → EffectDone e st r es es' xs xs'
+    pub took_alone : {r : State} {es' : List ℕ} {xs' : List Exp} → opens (bracket_of (at ts st.at)) ≡ false
+        → EffectDone e st r es es' xs xs'
         → TookToken ts inside st r es es' xs xs'
     took_alone o d =
         record { went = record { same = opened false o d; ready = d.ready }; kept = d.kept; forward = omega (arith, d.moved) }
 
     -- it opens one, which was read from a copy of the state and back
-    pub took_bracket : {u v w r : State} {es₁ es₂ : List ℕ} {xs₁ xs₂ : List Exp} → opens (bracket_of (at ts st.at)) ≡ true → EffectDone e st u es es₁ xs xs₁
+    pub took_bracket : {u v w r : State} {es₁ es₂ : List ℕ} {xs₁ xs₂ : List Exp} → opens (bracket_of (at ts st.at)) ≡ true
+        → EffectDone e st u es es₁ xs xs₁
         → v ≡ u → Read ts (Some (at ts st.at).pos) v w es₁ es₂ xs₁ xs₂ → r ≡ w → TookToken ts inside st r es es₂ xs xs₂
     took_bracket {u} {v} {w} {r} {es₁} {es₂} {xs₁} {xs₂} o d copy read back =
         let i : Read ts (Some (at ts st.at).pos) u w es₁ es₂ xs₁ xs₂ =
@@ -110,12 +112,14 @@ module _ (ts : List Token) where
         })
 
   module _ (inside : Option ℕ) where
-    pub within_then : {st u r : State} {es es₁ es₂ : List ℕ} {xs xs₁ xs₂ : List Exp} → Within ts inside st u es es₁ xs xs₁ → Within ts inside u r es₁ es₂ xs₁ xs₂ → Within ts inside st r es es₂ xs xs₂
+    pub within_then : {st u r : State} {es es₁ es₂ : List ℕ} {xs xs₁ xs₂ : List Exp} → Within ts inside st u es es₁ xs xs₁
+        → Within ts inside u r es₁ es₂ xs₁ xs₂ → Within ts inside st r es es₂ xs xs₂
     within_then a b =
         record { same = λ stk. a.same stk ∙ b.same stk; kept = kept_then a.kept b.kept; ready = b.ready; forward = omega (arith, a.forward, b.forward) }
 
     -- no token is left: a bracket stays open, and gives nothing
-    pub read_none : {st r : State} {es es' : List ℕ} {xs xs' : List Exp} → length ts ≤ r.at → Within ts inside st r es es' xs xs' → Read ts inside st r es es' xs xs'
+    pub read_none : {st r : State} {es es' : List ℕ} {xs xs' : List Exp} → length ts ≤ r.at → Within ts inside st r es es' xs xs'
+        → Read ts inside st r es es' xs xs'
     unfolding walk
     read_none {st} {r} {es} {es'} {xs} {xs'} h w =
         let e = drop_all r.at ts h in
@@ -134,8 +138,10 @@ module _ (ts : List Token) where
 
     module _ (st : State) (es : List ℕ) (xs : List Exp) (h : st.at < length ts) where
       -- one token and its effect
-      one : (stk : List ℕ) (c : Bool) → ends (bracket_by inside (bracket_of (at ts st.at))) ≡ c → walk numbers_of (stack_by inside stk) (view st es xs) (drop st.at ts)
-          ≡ walk numbers_of (beyond st (cond c stk (stack_by inside stk))) (applied numbers_of (effect_in ts xs st inside) (view st es xs)) (drop (st.at + 1) ts)
+      one : (stk : List ℕ) (c : Bool) → ends (bracket_by inside (bracket_of (at ts st.at))) ≡ c
+          → walk numbers_of (stack_by inside stk) (view st es xs) (drop st.at ts)
+          ≡ walk numbers_of (beyond st (cond c stk (stack_by inside stk)))
+          (applied numbers_of (effect_in ts xs st inside) (view st es xs)) (drop (st.at + 1) ts)
       one stk c o =
           let f = effect_same inside stk (type_of (at ts st.at).kind) (here_in (at ts st.at) xs st) (ahead_of (drop (st.at + 1) ts)) in
           let l : leave (bracket_of (at ts st.at)) (stack_by inside stk) ≡ cond c stk (stack_by inside stk) =
@@ -144,7 +150,8 @@ module _ (ts : List Token) where
           ∙ (λ i. walk numbers_of (beyond st (l i)) (applied numbers_of (f i) (view st es xs)) (drop (st.at + 1) ts))
 
       -- it ends the bracket
-      pub read-ends : {r : State} {es' : List ℕ} {xs' : List Exp} → ends (bracket_by inside (bracket_of (at ts st.at))) ≡ true → TookToken ts inside st r es es' xs xs'
+      pub read-ends : {r : State} {es' : List ℕ} {xs' : List Exp} → ends (bracket_by inside (bracket_of (at ts st.at))) ≡ true
+          → TookToken ts inside st r es es' xs xs'
           → Read ts inside st r es es' xs xs'
       read-ends o t =
           record {
@@ -155,13 +162,15 @@ module _ (ts : List Token) where
           }
 
       -- it does not, and tokens are read on
-      pub within-one : {u : State} {es₁ : List ℕ} {xs₁ : List Exp} → ends (bracket_by inside (bracket_of (at ts st.at))) ≡ false → TookToken ts inside st u es es₁ xs xs₁
+      pub within-one : {u : State} {es₁ : List ℕ} {xs₁ : List Exp} → ends (bracket_by inside (bracket_of (at ts st.at))) ≡ false
+          → TookToken ts inside st u es es₁ xs xs₁
           → Within ts inside st u es es₁ xs xs₁
       within-one o t =
           record { same = λ stk. one stk false o ∙ t.went.same (stack_by inside stk); kept = t.kept; ready = t.went.ready; forward = omega (arith, t.forward) }
 
     -- what was read from there on, after tokens that ended nothing
-    pub read_then : {st u r : State} {es es₁ es₂ : List ℕ} {xs xs₁ xs₂ : List Exp} → Within ts inside st u es es₁ xs xs₁ → Read ts inside u r es₁ es₂ xs₁ xs₂ → Read ts inside st r es es₂ xs xs₂
+    pub read_then : {st u r : State} {es es₁ es₂ : List ℕ} {xs xs₁ xs₂ : List Exp} → Within ts inside st u es es₁ xs xs₁
+        → Read ts inside u r es₁ es₂ xs₁ xs₂ → Read ts inside st r es es₂ xs xs₂
     read_then w b =
         record {
           went = record { same = λ stk. w.same stk ∙ b.went.same stk; ready = b.went.ready };

@@ -70,6 +70,7 @@ fn take_token(
     let token = tokens[st.at];
     let kind = TokenType::from_number(token.kind);
     let ahead = ahead_of(kind, &tokens[st.at + 1..]);
+    // One call for both: outside any bracket the token is Other, and the position is not looked at.
     let e = process_inside(
         bracket_in(inside, token),
         inside.unwrap_or(0),

@@ -12,14 +12,16 @@ read_tokens-returns-then-last t c =
     let a = c.args in
     let l = c.loop-s in
     read_then a.tokens.now a.inside l.invariant.0
-    (read-ends a.tokens.now a.inside l.s l.errs l.exps c.loop-s-test.true (sym c.ends-last.ensures ∙ c.if-last.true) c.take_token-s.ensures)
+    (read-ends a.tokens.now a.inside l.s l.errs l.exps c.loop-s-test.true
+    (sym c.ends-last.ensures ∙ c.if-last.true) c.take_token-s.ensures)
 
 pub read_tokens-loop-s-preserved : goal.read_tokens-loop-s-preserved
 read_tokens-loop-s-preserved t c =
     let a = c.args in
     let l = c.loop-s in (
       within_then a.tokens.now a.inside l.invariant.0
-          (within-one a.tokens.now a.inside l.s l.errs l.exps c.loop-s-test.true (sym c.ends-last.ensures ∙ c.if-last.false) c.take_token-s.ensures),
+          (within-one a.tokens.now a.inside l.s l.errs l.exps c.loop-s-test.true
+          (sym c.ends-last.ensures ∙ c.if-last.false) c.take_token-s.ensures),
       omega arith,
       omega arith,
     )
@@ -39,7 +41,8 @@ take_token-apply-u-requires t c =
     let a = c.args in
     let p = c.requires in
     let f = effect_at_lem a.tokens.now a.exps.now a.st a.inside c.ahead_of-ahead.result
-    c.bracket_in.ensures c.unwrap_or.ensures c.from_number-kind.ensures c.here_at.ensures c.ahead_of-ahead.ensures c.process_inside-e.ensures in
+    c.bracket_in.ensures c.unwrap_or.ensures c.from_number-kind.ensures c.here_at.ensures
+    c.ahead_of-ahead.ensures c.process_inside-e.ensures in
     (p.2, omega (arith, p.0.few, p.1), f.1, p.3)
 
 pub take_token-returns-then-opens : goal.take_token-returns-then-opens
@@ -47,7 +50,8 @@ take_token-returns-then-opens t c =
     let a = c.args in
     took_bracket a.tokens.now a.inside a.st a.errs.now a.exps.now
     (effect_at_lem a.tokens.now a.exps.now a.st a.inside c.ahead_of-ahead.result
-    c.bracket_in.ensures c.unwrap_or.ensures c.from_number-kind.ensures c.here_at.ensures c.ahead_of-ahead.ensures c.process_inside-e.ensures).0
+    c.bracket_in.ensures c.unwrap_or.ensures c.from_number-kind.ensures c.here_at.ensures
+    c.ahead_of-ahead.ensures c.process_inside-e.ensures).0
     (sym c.opens.ensures ∙ c.if-opens.true)
     c.apply-u.ensures c.copied.ensures c.read_tokens-r.ensures c.copied-then-opens.ensures
 
@@ -56,6 +60,7 @@ take_token-returns t c =
     let a = c.args in
     took_alone a.tokens.now a.inside a.st a.errs.now a.exps.now
     (effect_at_lem a.tokens.now a.exps.now a.st a.inside c.ahead_of-ahead.result
-    c.bracket_in.ensures c.unwrap_or.ensures c.from_number-kind.ensures c.here_at.ensures c.ahead_of-ahead.ensures c.process_inside-e.ensures).0
+    c.bracket_in.ensures c.unwrap_or.ensures c.from_number-kind.ensures c.here_at.ensures
+    c.ahead_of-ahead.ensures c.process_inside-e.ensures).0
     (sym c.opens.ensures ∙ c.if-opens.false)
     c.apply-u.ensures

@@ -9,4 +9,6 @@ read_tokens-end-requires c =
     (c.requires.0, (d.ensures c.args.exps.now).ready, record { errs = omega (arith, c.requires.1.errs, d.auto); exps = c.requires.1.exps })
 
 pub returns : goal.returns
-returns c = parsed c.args.tokens.now c.next_at.ensures c.next_at-second.ensures c.sign.ensures c.note-root.ensures (c.begin-st.ensures c.args.exps.now) c.read_tokens-end.ensures
+returns c =
+    parsed c.args.tokens.now c.next_at.ensures c.next_at-second.ensures c.sign.ensures c.note-root.ensures
+    (c.begin-st.ensures c.args.exps.now) c.read_tokens-end.ensures

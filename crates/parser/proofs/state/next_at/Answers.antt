@@ -8,4 +8,6 @@ use Rattle.parser.proofs.state.next_at.Goals as goal
 
 pub returns-in-None : goal.returns-in-None
 unfolding type_of
-returns-in-None c = sym (ap (λ (t : Token). next_of (type_of t.kind)) (get_or-eq_default c.args.tokens.now (token 0 0 0) c.in-None.ensures.lookup.3))
+returns-in-None c =
+    let behind = get_or-eq_default c.args.tokens.now (token 0 0 0) c.in-None.ensures.lookup.3 in
+    sym (ap (λ (t : Token). next_of (type_of t.kind)) behind)
