@@ -10,7 +10,8 @@ cond-le : (b : Bool) (x y n : ℕ) → x ≤ n → y ≤ n → cond b x y ≤ n
 cond-le true x y n h k = h
 cond-le false x y n h k = k
 
-pub took_inside : {s r : Input} {block line line' : List ℕ} → Inside s block line → 0 < s.left → Took s r block line line' → Inside r block line'
+pub took_inside : {s r : Input} {block line line' : List ℕ} →
+    Inside s block line → 0 < s.left → Took s r block line line' → Inside r block line'
 took_inside {s} {r} {block} {line} {line'} i more t =
     let same : length line' ≡ length line = put-length t.put in
     let kept = cond-le s.ready 0 s.len (length line) (omega arith) i.text in

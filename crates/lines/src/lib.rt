@@ -1,8 +1,8 @@
-// Lines of a reader, as standard input, out of blocks. The caller lends a buffer for blocks and one for a line. What the system reads cannot
-// be said; all else is.
+// Lines of a reader, as standard input, out of blocks. The caller lends a buffer for blocks and one for a line. What the system reads
+// cannot be said; all else is.
 #![tactic(auto)]
 
-ghost use Rattle.std.specs.Prelude.{List, None, Some, cond, true, position, ◌==◌, ◌≡◌, ℕ, ◌+◌, ◌≤◌, ◌<◌, length, take, IfOk, MatchOption, OnOk, OnErr, false};
+ghost use Rattle.std.specs.Prelude.{true, false, position, ◌==◌, ◌≡◌, ◌+◌, ◌≤◌, ◌<◌, length, take, IfOk, MatchOption, OnOk, OnErr};
 ghost use Rattle.std.specs.Io.KnownBytes.{Consumes, Keeps};
 ghost use Rattle.lines.specs.Input.{Failed, Inside, Next, Read, Took, kept as Input·kept, nothing_read, to_newline};
 
@@ -170,8 +170,8 @@ impl<'a> Lines<'a> {
         }
     }
 
-    // Takes the bytes up to the next newline or the end of the block; where there are none left, reads the next block. After an error of the
-    // reader the same call may follow.
+    // Takes the bytes up to the next newline or the end of the block; where there are none left, reads the next block. After an error of
+    // the reader the same call may follow.
     pub fn next<R: Read>(&mut self, from: &mut R) -> io::Result<()>
         requires { 0 < self.old.input.left }
         ensures next { OnOk result
