@@ -14,6 +14,7 @@ use Rattle.midi.specs.Midi.{between}
 use Rattle.midi.specs.declared.Refusal.TheVariants.{NoText, OutsideKeys, ShortOutput}
 use Rattle.writer.proofs.Answers.{is_test, negated}
 use Rattle.writer.proofs.Puts.{put_as, put_from}
+use Rattle.std.proofs.Common.{rules, true}
 use Rattle.midi.proofs.next.Goals as goal
 
 pub returns-then-not-has_text : goal.returns-then-not-has_text
@@ -30,7 +31,7 @@ returns-in_default c =
     let s = members a.sounding.now in
     let t = c.has_text in
     let e = is_test a.chord t.result t.ensures ∙ negated _ _ c.if-not-has_text.false-raw in
-    let o = ? in
+    let o : outside (keys_of a.base (four_of a.chord)) ≡ true = search (rules, c.in_default) in
     gave_refused OutsideKeys a.sounding.now a.out.now (next-outside _ s a.base (four_of a.chord) e o)
 
 pub returns-then-out-length_between : goal.returns-then-out-length_between
