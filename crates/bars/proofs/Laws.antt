@@ -46,7 +46,8 @@ end-within line p h = omega (arith, h, bar-short (drop p line), length-drop p li
 
 -- the bar of a line ends at its first `|`, or with the line
 pub first_stroke : (l : List ℕ) (r : Option ℕ)
-    → MatchOption r (AllWithin (λ b. b ≢ stroke) l 0 (length l)) (λ i. (i < length l) × HoldsAt (λ b. b ≡ stroke) l i × AllWithin (λ b. b ≢ stroke) l 0 i)
+    → MatchOption r (AllWithin (λ b. b ≢ stroke) l 0 (length l))
+    (λ i. (i < length l) × HoldsAt (λ b. b ≡ stroke) l i × AllWithin (λ b. b ≢ stroke) l 0 i)
     → length (bar l) ≡ unwrap_or r (length l)
 unfolding bar
 first_stroke =

@@ -60,7 +60,8 @@ module _ (body ending : List ℕ) (k : ℕ) where
       pub found_ending : (m s : ℕ) → StartIn body k (Err m) → StartIn ending m (Ok s) → spot_from Ending ending s ≡ spot_of body ending k
       found_ending m s e f =
           let n : m ≡ k - bar_count body = omega (arith, e) in
-          spot-from ending m f.0 Ending s f.1 ∙ ap (spot_in Ending ending) n ∙ sym (spot-in_ending (omega (arith, e)) (omega (arith, e, f.0)))
+          spot-from ending m f.0 Ending s f.1 ∙ ap (spot_in Ending ending) n
+          ∙ sym (spot-in_ending (omega (arith, e)) (omega (arith, e, f.0)))
 
       pub found_none : (m n : ℕ) → StartIn body k (Err m) → StartIn ending m (Err n) → nowhere NoBar ≡ spot_of body ending k
       found_none m n e f = sym (spot-none (omega (arith, e, f)))

@@ -98,14 +98,16 @@ module _ (line : List ℕ) (number i left : ℕ) (some : 0 < left) (inside : i <
       }
 
 -- no bar is left to be passed
-pub passed_to : (line : List ℕ) (number i left : ℕ) → left ≡ 0 → Passing line number i left → (number < bar_count line) × (i ≡ start_of line number)
+pub passed_to : (line : List ℕ) (number i left : ℕ) → left ≡ 0 → Passing line number i left
+    → (number < bar_count line) × (i ≡ start_of line number)
 unfolding spans
 passed_to line number i left z p =
     let s : start_of (drop i line) left ≡ 0 = ap (start_of (drop i line)) z in
     (omega (arith, p.counts, z, some-bar (drop i line)), omega (arith, p.starts, s))
 
 -- the line ends, and with it the last bar
-pub passed_all : (line : List ℕ) (number i left : ℕ) → 0 < left → length line ≤ i → Passing line number i left → bar_count line + (left - 1) ≡ number
+pub passed_all : (line : List ℕ) (number i left : ℕ) → 0 < left → length line ≤ i → Passing line number i left
+    → bar_count line + (left - 1) ≡ number
 unfolding bars_of
 passed_all line number i left some past p =
     let n : bar_count (drop i line) ≡ 1 = ap bar_count (drop_of_length-le line past) in

@@ -1,4 +1,5 @@
--- The token at a place, and what comes after it. What one store among the tokens does, as `join` says it: the token comes last, or pairs with the latest of the first w.
+-- The token at a place, and what comes after it. What one store among the tokens does, as `join` says it: the token comes last, or pairs
+-- with the latest of the first w.
 use mathlib.Core.Bool.{false}
 use mathlib.Core.List.{List, ◌∷◌}
 use mathlib.Core.Path.{◌≡◌, sym, ap, ◌∙◌}

@@ -18,23 +18,30 @@ use Rattle.folding.specs.State.{Apart, Counted, Joined, came, Stepped}
 use Rattle.folding.specs.declared.Out.{Out}
 use Rattle.folding.proofs.Counts.{is_so, is-not, count_snoc, join_grows, join_pairs}
 
-module _ {own other r i w e n m : ℕ} {R R' : List Token} (h : (at R i).kind ≡ own) (apart : own ≡ other → ⊥) (J : Joined other r i m w e R R')
+module _ {own other r i w e n m : ℕ} {R R' : List Token} (h : (at R i).kind ≡ own) (apart : own ≡ other → ⊥)
+    (J : Joined other r i m w e R R')
     (ns : n ≡ count own (take w R)) (ms : m ≡ count other (take w R)) where
   abbrev Holds : ℕ × ℕ → Type 0
   Holds c = (c.0 ≡ count own (take e R')) × (c.1 ≡ count other (take e R'))
 
   waits : m ≡ 0 → Holds (n + 1, 0)
   waits z =
-      let a : count own (take e R') ≡ count own (take w R) + one (is own (at R i)) = ap (count own) J.list ∙ join_grows other r (at R i) own (take w R) (omega arith) in
-      let b : count other (take e R') ≡ count other (take w R) + one (is other (at R i)) = ap (count other) J.list ∙ join_grows other r (at R i) other (take w R) (omega arith) in
+      let a : count own (take e R') ≡ count own (take w R) + one (is own (at R i)) =
+      ap (count own) J.list ∙ join_grows other r (at R i) own (take w R) (omega arith) in
+      let b : count other (take e R') ≡ count other (take w R) + one (is other (at R i)) =
+      ap (count other) J.list ∙ join_grows other r (at R i) other (take w R) (omega arith) in
       let p : one (is own (at R i)) ≡ 1 = ap one (is_so own (at R i) h) in
       let q : one (is other (at R i)) ≡ 0 = ap one (is-not other (at R i) (λ x. apart (sym h ∙ x))) in
       (omega arith, omega arith)
 
   pairs : 0 < m → (r ≡ own → ⊥) → (r ≡ other → ⊥) → Holds (n, m - 1)
   pairs s ro rt =
-      let a : count own (take e R') + one (eqb other own) ≡ count own (take w R) = ap (λ (l : List Token). count own l + one (eqb other own)) J.list ∙ join_pairs other r (at R i) own (take w R) (omega arith) ro in
-      let b : count other (take e R') + one (eqb other other) ≡ count other (take w R) = ap (λ (l : List Token). count other l + one (eqb other other)) J.list ∙ join_pairs other r (at R i) other (take w R) (omega arith) rt in
+      let a : count own (take e R') + one (eqb other own) ≡ count own (take w R) =
+      ap (λ (l : List Token). count own l + one (eqb other own)) J.list
+      ∙ join_pairs other r (at R i) own (take w R) (omega arith) ro in
+      let b : count other (take e R') + one (eqb other other) ≡ count other (take w R) =
+      ap (λ (l : List Token). count other l + one (eqb other other)) J.list
+      ∙ join_pairs other r (at R i) other (take w R) (omega arith) rt in
       let p : one (eqb other own) ≡ 0 = ap one (ne_eqb other own (λ x. apart (sym x))) in
       let q : one (eqb other other) ≡ 1 = ap one (eq-eqb other other refl) in
       (omega arith, omega arith)

@@ -30,7 +30,8 @@ module _ (m r : ℕ) where
         counted = record { partners = p ∙ sym (ap (count m) none); sevens = q ∙ sym (ap (count seven) none) };
       }
 
-  pub folding_step : {R₀ R R' : List Token} {o o' : Out} {i : ℕ} → i < length R → Folding m r R₀ R o i → Stepped m r i o o' R R' → Folding m r R₀ R' o' (i + 1)
+  pub folding_step : {R₀ R R' : List Token} {o o' : Out} {i : ℕ} → i < length R → Folding m r R₀ R o i → Stepped m r i o o' R R'
+      → Folding m r R₀ R' o' (i + 1)
   unfolding fold_on
   folding_step {R₀} {R} {R'} {o} {o'} {i} h F S =
       let d : drop (i + 1) R' ≡ drop (i + 1) R = later R' R o'.at (i + 1) (omega (arith, S.most, F.low)) S.rest in
@@ -41,7 +42,8 @@ module _ (m r : ℕ) where
         counted = S.counted;
       }
 
-  pub folding_end : {R₀ R : List Token} {o : Out} {i : ℕ} → length R ≤ i → i ≤ length R₀ → Folding m r R₀ R o i → Turned (fold7 m r) o.at R₀ R
+  pub folding_end : {R₀ R : List Token} {o : Out} {i : ℕ} → length R ≤ i → i ≤ length R₀ → Folding m r R₀ R o i
+      → Turned (fold7 m r) o.at R₀ R
   unfolding fold_on
   folding_end {R₀} {R} {o} {i} h g F =
       record {

@@ -56,7 +56,8 @@ module _ (R : List Token) (i : ℕ) (h : i < length R) where
         ∙ ap (λ (l : List Token). at R i ∷ concat l) (sym (next-token R (i + 1) g))
     | no q ↦
         let z : drop (i + 1) R ≡ [] = drop_of_length-le R (omega arith) in
-        ap concat (next-token R i h ∙ ap (λ (l : List Token). at R i ∷ l) z) ∙ concat-last (at R i) ∙ ap (λ (l : List Token). at R i ∷ concat l) (sym z)
+        ap concat (next-token R i h ∙ ap (λ (l : List Token). at R i ∷ l) z)
+        ∙ concat-last (at R i) ∙ ap (λ (l : List Token). at R i ∷ concat l) (sym z)
   ]
 
 module _ (R : List Token) (w i : ℕ) (b : w ≤ i) (h : i < length R) where
@@ -83,16 +84,19 @@ pub record Joining (R₀ R : List Token) (w i : ℕ) : Type 0 where
 pub joining_start : (R : List Token) → Joining R R 0 0
 joining_start R = record { low = omega arith; high = omega arith; same = refl; rest = refl }
 
-pub joining_step : {R₀ R R' : List Token} {w i e : ℕ} → length R' ≡ length R → Joining R₀ R w i → TookFirst i w e R R' → Joining R₀ R' (w + 1) e
+pub joining_step : {R₀ R R' : List Token} {w i e : ℕ} → length R' ≡ length R → Joining R₀ R w i → TookFirst i w e R R'
+    → Joining R₀ R' (w + 1) e
 joining_step {R₀} {R} {R'} {w} {i} {e} n J T =
     let t = at R' w in
     let d : drop (w + 1) R' ≡ drop (w + 1) R = ap (drop (w + 1)) T.only ∙ drop-set-lt (w + 1) R w t (omega arith) in
-    let a : take (w + 1) R' ≡ take w R ++ (t ∷ []) = ap (λ (k : ℕ). take k R') (add-one w) ∙ ap (take (suc w)) T.only ∙ take-suc-set R w t (omega (arith, T.more, T.most, J.low)) in
+    let a : take (w + 1) R' ≡ take w R ++ (t ∷ []) =
+    ap (λ (k : ℕ). take k R') (add-one w) ∙ ap (take (suc w)) T.only ∙ take-suc-set R w t (omega (arith, T.more, T.most, J.low)) in
     let s : drop e R' ≡ drop e R = later R' R (w + 1) e (omega (arith, T.more, J.low)) d in
     record {
       low = omega (arith, T.more, J.low);
       high = omega (arith, T.most);
-      same = ap₂ (λ (x y : List Token). x ++ concat y) a s ∙ append_assoc (take w R) (t ∷ []) (concat (drop e R)) ∙ ap (λ (l : List Token). take w R ++ l) (sym T.list) ∙ J.same;
+      same = ap₂ (λ (x y : List Token). x ++ concat y) a s
+          ∙ append_assoc (take w R) (t ∷ []) (concat (drop e R)) ∙ ap (λ (l : List Token). take w R ++ l) (sym T.list) ∙ J.same;
       rest = d ∙ later R R₀ w (w + 1) (omega arith) J.rest;
     }
 
@@ -104,7 +108,8 @@ joining_end {R₀} {R} {w} {i} h n J =
       fewer = omega (arith, J.low, J.high);
     }
 
-pub still_short : {R₀ R : List Token} {w i : ℕ} → length R ≡ length R₀ → Joining R₀ R w i → Short R₀ → (j : ℕ) → i ≤ j → j < length R → (at R j).len ≤ 256
+pub still_short : {R₀ R : List Token} {w i : ℕ} → length R ≡ length R₀ → Joining R₀ R w i → Short R₀
+    → (j : ℕ) → i ≤ j → j < length R → (at R j).len ≤ 256
 still_short {R₀} {R} {w} {i} n J S j h g =
     let e : (at R j).len ≡ (at R₀ j).len = ap (λ (x : Token). x.len) (at-later R R₀ w j (token 0 0 0) (omega (arith, J.low)) J.rest) in
     omega (arith, S j (omega arith))

@@ -17,8 +17,10 @@ pub loop-i-preserved : goal.loop-i-preserved
 loop-i-preserved c =
     let i = c.loop-i.i in
     elim c.if-b-eq-STROKE.branch [
-      | then-b-eq-STROKE w ↦ subst (Passing _ _ (i + 1)) (sym w.left-is) (passing_stroke _ _ i _ (omega arith) c.loop-i-test.true c.loop-i.invariant w.if-b-eq-STROKE.true)
-      | else-b-eq-STROKE w ↦ subst (Passing _ _ (i + 1)) (sym w.left-is) (passing_other _ _ i _ (omega arith) c.loop-i-test.true c.loop-i.invariant w.if-b-eq-STROKE.false)
+      | then-b-eq-STROKE w ↦ subst (Passing _ _ (i + 1)) (sym w.left-is)
+          (passing_stroke _ _ i _ (omega arith) c.loop-i-test.true c.loop-i.invariant w.if-b-eq-STROKE.true)
+      | else-b-eq-STROKE w ↦ subst (Passing _ _ (i + 1)) (sym w.left-is)
+          (passing_other _ _ i _ (omega arith) c.loop-i-test.true c.loop-i.invariant w.if-b-eq-STROKE.false)
     ]
 
 pub returns-then-left-eq0-2 : goal.returns-then-left-eq0-2

@@ -7,7 +7,8 @@ use Rattle.folding.proofs.join.Goals as goal
 use Rattle.folding.proofs.join.Goals.{then-waiting-gt0+in_default, else-waiting-gt0}
 
 pub returns-in-Some : goal.returns-in-Some
-returns-in-Some c = joined_pair c.in-Some.j c.in-Some.ensures.0 (omega arith) c.if-waiting-gt0.true c.in-Some.ensures.1 c.in-Some.ensures.2 c.pair.ensures
+returns-in-Some c =
+    joined_pair c.in-Some.j c.in-Some.ensures.0 (omega arith) c.if-waiting-gt0.true c.in-Some.ensures.1 c.in-Some.ensures.2 c.pair.ensures
 
 pub returns : goal.returns
 returns c =

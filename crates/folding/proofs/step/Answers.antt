@@ -19,13 +19,16 @@ pub came-partners-requires : goal.came-partners-requires
 came-partners-requires c = omega (arith, few c.args.fold.partner c.args.o.at c.args.tokens.now (omega arith))
 
 pub returns-then-kind-fold : goal.returns-then-kind-fold
-returns-then-kind-fold c = partner_taken c.args.fold.apart c.requires.counted _ c.came-partners.ensures c.if-kind-fold.true c.join-at.ensures
+returns-then-kind-fold c =
+    partner_taken c.args.fold.apart c.requires.counted _ c.came-partners.ensures c.if-kind-fold.true c.join-at.ensures
 
 pub came-sevens-requires : goal.came-sevens-requires
 came-sevens-requires c = omega (arith, few seven c.args.o.at c.args.tokens.now (omega arith))
 
 pub returns-then-kind-eq-SEVEN : goal.returns-then-kind-eq-SEVEN
-returns-then-kind-eq-SEVEN c = seven-taken c.args.fold.apart c.requires.counted _ c.came-sevens.ensures c.if-kind-eq-SEVEN.true c.join-at-then-kind-eq-SEVEN.ensures
+returns-then-kind-eq-SEVEN c =
+    seven-taken c.args.fold.apart c.requires.counted _ c.came-sevens.ensures c.if-kind-eq-SEVEN.true
+    c.join-at-then-kind-eq-SEVEN.ensures
 
 pub returns : goal.returns
 returns c = other_comes c.args.fold.apart c.requires.counted (omega arith) c.if-kind-fold.false c.if-kind-eq-SEVEN.false refl
