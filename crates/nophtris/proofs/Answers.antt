@@ -13,8 +13,7 @@ use Rattle.chord.specs.Chord.{Four}
 use Rattle.house_text.proofs.Length.{house-length}
 use Rattle.reader.specs.Reader as reader
 use Rattle.reader.specs.State as reader-state
-use Rattle.reader.specs.declared.Answer.{Answer as Read}
-use Rattle.reader.specs.declared.Reading.{Reading}
+use Rattle.reader.specs.Reader.{Answer as Read, Reading}
 use Rattle.std.specs.Prelude.{Ok, Err}
 use Rattle.writer.proofs.Answers.{Way, has, lacks, long_buffer, way}
 use Rattle.writer.proofs.Puts.{put_whole}

@@ -19,6 +19,7 @@ use intervals::{IntervalList, IntervalSet};
 use keys::Keys;
 use keys::bytes::{byte_of, keys_in};
 use note::{Note, NoteLiteral, RootModifier};
+use reader::Refusal;
 use writer::buffer::Buffer;
 
 // The letter of a note that is none; and flat, -1, as a byte.
@@ -43,7 +44,7 @@ fn put_note(out: &mut Buffer, note: Option<Note>)
 {
     match note {
         None => out.put(&[NONE, 0]),
-        Some(x) => out.put(&[x.literal.number(), alteration(x.modifier)]),
+        Some(x) => out.put(&[u8::from(x.literal), alteration(x.modifier)]),
     }
 }
 
@@ -83,20 +84,19 @@ pub fn nophtris_read(text: &[u8], errors: &mut [u16], count: &mut u16, chord: &m
     ensures { Read text.now errors.old errors.new count.old count.new
         chord.old chord.new result }
 {
-    let read = reader::read(text, errors);
-    match read.answer {
-        reader::Answer::Accepted => {
-            encode(read.chord, chord);
+    match reader::read(text, errors) {
+        Ok(read) => {
+            encode(read, chord);
             0
         }
-        reader::Answer::ShortList => 1,
-        reader::Answer::LongText => 2,
-        reader::Answer::NotUtf8 => 3,
-        reader::Answer::Parse(n) => {
+        Err(Refusal::ShortList) => 1,
+        Err(Refusal::LongText) => 2,
+        Err(Refusal::NotUtf8) => 3,
+        Err(Refusal::Parse(n)) => {
             *count = n;
             4
         }
-        reader::Answer::Validation(n) => {
+        Err(Refusal::Validation(n)) => {
             *count = n;
             5
         }
