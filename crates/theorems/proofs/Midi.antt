@@ -21,11 +21,10 @@ use Rattle.keys.specs.Keys.{keys_of, keys_over, outside, wants}
 use Rattle.keys.specs.Stored.{members}
 use Rattle.keys.specs.declared.Keys.{Keys}
 use Rattle.midi.proofs.Answers.{Way, falls, goes, lacks, next-sent, short, way}
-use Rattle.midi.specs.Midi.{NextOutcome, between, length_of, next_of, number_of, refused, sent}
-use Rattle.midi.specs.State.{Next}
-use Rattle.midi.specs.declared.Answer.TheVariants as answer
-use Rattle.midi.specs.declared.Answer.{Answer}
-use Rattle.midi.specs.declared.Step.{Step}
+use Rattle.midi.specs.Midi.{Answer, NextOutcome, between, length_of, next_of, number_of, refused, sent}
+use Rattle.midi.specs.State.{Next, Step}
+use Rattle.midi.specs.declared.Refusal.TheVariants as refusal
+use Rattle.std.specs.Prelude.{Ok, Err}
 use Rattle.theorems.proofs.Balance.{Low, Sends, balanced, ends, moves, stays}
 use Rattle.theorems.proofs.Reach.{between-most, between-same, none-outside}
 use Rattle.theorems.proofs.Readings.{no, yes}
@@ -245,13 +244,13 @@ midi-silence s base c bs bs' r g e =
 
 -- the answer of a number and a length
 abbrev answer_of : ℕ → ℕ → Answer
-answer_of n l = cond (eqb n 0) (answer.Sent l) (cond (eqb n 7) answer.NoText (cond (eqb n 10) answer.OutsideKeys answer.ShortOutput))
+answer_of n l = cond (eqb n 0) (Ok l) (cond (eqb n 7) (Err refusal.NoText) (cond (eqb n 10) (Err refusal.OutsideKeys) (Err refusal.ShortOutput)))
 
 answer_back : (a : Answer) → answer_of (number_of a) (length_of a) ≡ a
-answer_back (answer.Sent n) = refl
-answer_back answer.NoText = refl
-answer_back answer.OutsideKeys = refl
-answer_back answer.ShortOutput = refl
+answer_back (Ok n) = refl
+answer_back (Err refusal.NoText) = refl
+answer_back (Err refusal.OutsideKeys) = refl
+answer_back (Err refusal.ShortOutput) = refl
 
 pub midi_apart_lem : MidiApart
 midi_apart_lem a b e l = sym (answer_back a) ∙ (λ i. answer_of (e i) (l i)) ∙ answer_back b

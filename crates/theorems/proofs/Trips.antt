@@ -24,8 +24,7 @@ use Rattle.theorems.specs.Reading.{four_of_text}
 use Rattle.theorems.specs.Trips.{AnyWrittenThenRead, ReadAndWritten, ReadThenWrite, SameSpelling, WriteThenRead}
 use Rattle.theorems.specs.Writing.{NoText, Spelled}
 use Rattle.writer.specs.State.{Written}
-use Rattle.writer.specs.Writer.{length_of, number_of}
-use Rattle.writer.specs.declared.Answer.{Answer}
+use Rattle.writer.specs.Writer.{Answer, length_of, number_of}
 
 -- the house spelling of an accepted text is accepted with its four
 pub respelled : (text : List ℕ) (f : Four) → IsAccepted text f → IsAccepted (house f) f

@@ -26,9 +26,9 @@ use Rattle.theorems.proofs.Readings.{no, yes}
 use Rattle.theorems.specs.CWriting as C-writing
 use Rattle.theorems.specs.Writing.{NoText, Numbered, Spelled, WriteApart, WriteNumbered, WriteSpelled, WriteUntouched}
 use Rattle.writer.proofs.Answers.{Asked, Way, asked_first, decided, enough, has, lacks, short, way}
-use Rattle.writer.specs.Writer.{HasText, WriteOutcome, answer_to, length_of, number_of, spelled, write_of}
-use Rattle.writer.specs.declared.Answer.TheVariants as answer
-use Rattle.writer.specs.declared.Answer.{Answer}
+use Rattle.writer.specs.Writer.{Answer, HasText, WriteOutcome, answer_to, length_of, number_of, spelled, write_of}
+use Rattle.std.specs.Prelude.{Ok, Err}
+use Rattle.writer.specs.declared.Refusal.TheVariants as refusal
 
 -- ---- a four, whose question the test decides
 
@@ -127,12 +127,12 @@ write_untouched_lem c bs bs' a g n =
 
 -- the answer of a number and a length
 abbrev answer_of : ℕ → ℕ → Answer
-answer_of n l = cond (eqb n 0) (answer.Spelled l) (cond (eqb n 6) answer.ShortBuffer answer.NoText)
+answer_of n l = cond (eqb n 0) (Ok l) (cond (eqb n 6) (Err refusal.ShortBuffer) (Err refusal.NoText))
 
 answer_back : (a : Answer) → answer_of (number_of a) (length_of a) ≡ a
-answer_back (answer.Spelled n) = refl
-answer_back answer.ShortBuffer = refl
-answer_back answer.NoText = refl
+answer_back (Ok n) = refl
+answer_back (Err refusal.ShortBuffer) = refl
+answer_back (Err refusal.NoText) = refl
 
 pub write_apart_lem : WriteApart
 write_apart_lem a b e l = sym (answer_back a) ∙ (λ i. answer_of (e i) (l i)) ∙ answer_back b

@@ -9,10 +9,8 @@ use Rattle.intervals.specs.Interval.{Set, empty}
 use Rattle.keys.specs.Keys.{keys_of, outside, wants}
 use Rattle.keys.specs.Stored.{members}
 use Rattle.keys.specs.declared.Keys.{Keys}
-use Rattle.midi.specs.Midi.{between, length_of, number_of}
-use Rattle.midi.specs.State.{Next}
-use Rattle.midi.specs.declared.Answer.{Answer}
-use Rattle.midi.specs.declared.Step.{Step}
+use Rattle.midi.specs.Midi.{Answer, between, length_of, number_of}
+use Rattle.midi.specs.State.{Next, Step}
 use Rattle.theorems.specs.Song.{Run}
 use Rattle.theorems.specs.Writing.{NoText}
 use Rattle.writer.specs.Writer.{HasText}

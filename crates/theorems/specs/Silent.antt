@@ -18,8 +18,7 @@ use Rattle.song.specs.State.{Bar}
 use Rattle.theorems.specs.CSong.{Call, CallReads}
 use Rattle.theorems.specs.Song.{ReadsBar}
 use Rattle.writer.specs.State.{Written}
-use Rattle.writer.specs.Writer.{HasText, length_of, number_of}
-use Rattle.writer.specs.declared.Answer.{Answer}
+use Rattle.writer.specs.Writer.{Answer, HasText, length_of, number_of}
 
 -- "A text of at most 256 bytes that is empty or spaces only is accepted as no chord", and no other text is
 abbrev pub BlankTexts : Type 0

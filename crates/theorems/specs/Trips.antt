@@ -8,8 +8,7 @@ use Rattle.reader.specs.State.{Read}
 use Rattle.reader.specs.Reader.{Reading}
 use Rattle.theorems.specs.Writing.{Spelled}
 use Rattle.writer.specs.State.{Written}
-use Rattle.writer.specs.Writer.{length_of, number_of}
-use Rattle.writer.specs.declared.Answer.{Answer}
+use Rattle.writer.specs.Writer.{Answer, length_of, number_of}
 
 -- "Every accepted text has a spelling of at most 112 bytes"; "writing that record gives its house spelling, whatever buffer of at least
 -- 112 bytes is lent": what was read with 0 is written with 0, and its house spelling stands in the buffer.

@@ -8,8 +8,7 @@ use Rattle.chord.specs.declared.Chord.{Chord}
 use Rattle.house_text.specs.Spelling.{house}
 use Rattle.reader.specs.Reader.{IsAccepted}
 use Rattle.writer.specs.State.{Written}
-use Rattle.writer.specs.Writer.{HasText, length_of, number_of}
-use Rattle.writer.specs.declared.Answer.{Answer}
+use Rattle.writer.specs.Writer.{Answer, HasText, length_of, number_of}
 
 -- no accepted text has the four that is held, or none is held
 abbrev pub NoText : Option Four → Type 0
