@@ -29,7 +29,7 @@ fn put_alteration(out: &mut Output, modifier: RootModifier)
 pub fn put_note(out: &mut Output, note: Note)
     ensures { PutNote note out.old.used out.new.used out.old.buffer.now out.new.buffer.now }
 {
-    put(out, note.literal.number() as u64);
+    put(out, u64::from(u8::from(note.literal)));
     put_alteration(out, note.modifier);
 }
 

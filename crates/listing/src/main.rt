@@ -9,7 +9,7 @@ use columns::{put, put_errors, put_note_or_none};
 use intervals::{IntervalList, IntervalSet};
 use lines::Lines;
 use output::Output;
-use reader::Answer;
+use reader::Refusal;
 use std::io;
 
 // Appends the count of the members of a set, and the members.
@@ -20,17 +20,16 @@ fn put_set(out: &mut Output, set: IntervalSet) {
     );
     for interval in 0..23 {
         if set.contains(interval) {
-            put(out, interval as u64);
+            put(out, u64::from(interval));
         }
     }
 }
 
 // Appends the count of the numbers of a list, and the numbers.
 fn put_list(out: &mut Output, list: IntervalList) {
-    let n = list.count();
-    put(out, n as u64);
-    for number in &list.numbers[..n] {
-        put(out, *number as u64);
+    put(out, list.count() as u64);
+    for number in list.as_slice() {
+        put(out, u64::from(*number));
     }
 }
 
@@ -44,32 +43,30 @@ fn put_chord(out: &mut Output, chord: Chord) {
 
 // Appends the n errors of a refusal, with which the list begins.
 fn put_first_errors(out: &mut Output, errs: &[u16], n: u16) {
-    if let Some(errors) = errs.get(..4 * (n as usize)) {
+    if let Some(errors) = errs.get(..4 * usize::from(n)) {
         put_errors(out, errors);
-    }
-}
-
-// The number of an answer.
-fn number(answer: Answer) -> u64 {
-    match answer {
-        Answer::Accepted => 0,
-        Answer::ShortList => 1,
-        Answer::LongText => 2,
-        Answer::NotUtf8 => 3,
-        Answer::Parse(_) => 4,
-        Answer::Validation(_) => 5,
     }
 }
 
 // Appends the answer to a text.
 fn put_answer(out: &mut Output, text: &[u8]) {
     let mut errs = [0u16; 1028];
-    let reading = reader::read(text, &mut errs);
-    put(out, number(reading.answer));
-    match reading.answer {
-        Answer::Accepted => put_chord(out, reading.chord),
-        Answer::Parse(n) | Answer::Validation(n) => put_first_errors(out, &errs, n),
-        _ => {}
+    match reader::read(text, &mut errs) {
+        Ok(chord) => {
+            put(out, 0);
+            put_chord(out, chord);
+        }
+        Err(Refusal::ShortList) => put(out, 1),
+        Err(Refusal::LongText) => put(out, 2),
+        Err(Refusal::NotUtf8) => put(out, 3),
+        Err(Refusal::Parse(n)) => {
+            put(out, 4);
+            put_first_errors(out, &errs, n);
+        }
+        Err(Refusal::Validation(n)) => {
+            put(out, 5);
+            put_first_errors(out, &errs, n);
+        }
     }
 }
 

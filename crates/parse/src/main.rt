@@ -4,46 +4,59 @@
 // right-justified in four columns.
 #![tactic(auto)]
 
-ghost use Rattle.std.specs.Prelude.{◌≤◌, length};
+ghost use Rattle.std.specs.Prelude.{◌≤◌, length, take};
+ghost use Rattle.parser.specs.State.{Tokens};
 
 use columns::{put, put_errors, put_note, put_note_or_none};
+use expression::expression::Exp;
 use lines::Lines;
-use note::Note;
 use output::Output;
 use std::io;
+use token::Token;
 
 // Appends the three numbers of an expression; kind 14 is the slash bass.
-fn put_exp(out: &mut Output, number: u32) {
-    let kind = number % 16;
-    let value = number / 16 % 256;
-    put(out, kind as u64);
-    if kind == 14 {
-        return put_note(out, Note::from_number(value as u8));
+fn put_exp(out: &mut Output, exp: Exp) {
+    if let Exp::SlashBass(note) = exp {
+        put(out, 14);
+        return put_note(out, note);
     }
-    put(out, value as u64);
-    put(out, (number / 4096) as u64);
+    let number = u32::from(exp);
+    put(out, u64::from(number % 16));
+    put(out, u64::from(number / 16 % 256));
+    put(out, u64::from(number / 4096));
 }
 
 // Appends the count of the expressions, and each.
-fn put_exps(out: &mut Output, exps: &[u32]) {
+fn put_exps(out: &mut Output, exps: &[Exp]) {
     put(out, exps.len() as u64);
     for exp in exps {
         put_exp(out, *exp);
     }
 }
 
+// The tokens of a text are written to the beginning of a lent array, folded; their number is returned.
+fn tokenize(text: &[u8], tokens: &mut [Token]) -> usize
+    requires { (length text.now ≤ 256) × (257 ≤ length tokens.old) }
+    ensures { (result ≤ length tokens.new) × Tokens (take result tokens.new) }
+{
+    let n = lexer::scan_tokens(text, tokens);
+    folding::pre_process(&mut tokens[..n])
+}
+
 // Appends what the parser finds in a text of at most 256 bytes.
 fn put_parse(out: &mut Output, text: &[u8])
     requires { length text.now ≤ 256 }
 {
-    let mut kinds = [0u8; 257];
-    let mut poss = [0u16; 257];
-    let mut lens = [0u16; 257];
+    let none = Token {
+        kind: 0,
+        pos: 0,
+        len: 0,
+    };
+    let mut tokens = [none; 257];
     let mut errs = [0u16; 1028];
-    let mut exps = [0u32; 257];
-    let n = lexer::scan_tokens(text, &mut kinds, &mut poss, &mut lens);
-    let e = folding::pre_process(&mut kinds, &mut poss, &mut lens, n);
-    let ast = parser::parser::parse(&kinds[..e], &poss[..e], &lens[..e], &mut errs, &mut exps);
+    let mut exps = [Exp::Power; 257];
+    let n = tokenize(text, &mut tokens);
+    let ast = parser::parser::parse(&tokens[..n], &mut errs, &mut exps);
     put_note_or_none(out, ast.root);
     put_exps(out, &exps[..ast.exps]);
     put_errors(out, &errs[..4 * ast.errors]);

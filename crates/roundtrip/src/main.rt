@@ -35,16 +35,13 @@ fn count(n: &mut u64) {
 
 // Is the text accepted, with the record's four?
 fn reads_as(text: &[u8], chord: Chord, errs: &mut [u16]) -> bool {
-    let reading = reader::read(text, errs);
-    matches!(reading.answer, reader::Answer::Accepted) && chord.same(reading.chord)
+    reader::read(text, errs).is_ok_and(|read| chord.same(read))
 }
 
 // The bytes of a record's spelling.
 fn written(chord: Chord, buffer: &mut [u8]) -> Option<&[u8]> {
-    match writer::write(chord, buffer) {
-        writer::Answer::Spelled(n) => buffer.get(..n),
-        _ => None,
-    }
+    let n = writer::write(chord, buffer).ok()?;
+    buffer.get(..n)
 }
 
 impl Trips {

@@ -3,35 +3,42 @@
 // length. Every number is right-justified in four columns.
 #![tactic(auto)]
 
-ghost use Rattle.token.specs.Token.{Room};
+ghost use Rattle.std.specs.Prelude.{◌≤◌, length};
 
 use columns::put;
 use lines::Lines;
 use output::Output;
 use std::io;
+use token::Token;
 
 // Appends the four numbers of a token: a note's type is 0 and an extension's 7, and these two carry a number.
-fn put_token(out: &mut Output, kind: u8, pos: u16, len: u16) {
-    let (tag, value) = match kind {
-        64.. => (0, kind - 64),
-        32..=63 => (7, kind - 32),
-        _ => (kind, 0),
+fn put_token(out: &mut Output, token: Token) {
+    let (tag, value) = match token.kind {
+        64.. => (0, token.kind - 64),
+        32..=63 => (7, token.kind - 32),
+        _ => (token.kind, 0),
     };
-    put(out, tag as u64);
-    put(out, value as u64);
-    put(out, pos as u64);
-    put(out, len as u64);
+    put(out, u64::from(tag));
+    put(out, u64::from(value));
+    put(out, u64::from(token.pos));
+    put(out, u64::from(token.len));
 }
 
-// Appends the first n tokens of three arrays.
-fn put_tokens(out: &mut Output, kinds: &[u8], poss: &[u16], lens: &[u16], n: usize)
-    requires { Room n kinds.now poss.now lens.now }
-{
-    put(out, n as u64);
-    // An index: three arrays are read at it.
-    for i in 0..n {
-        put_token(out, kinds[i], poss[i], lens[i]);
+// Appends the count of the tokens, and each.
+fn put_tokens(out: &mut Output, tokens: &[Token]) {
+    put(out, tokens.len() as u64);
+    for token in tokens {
+        put_token(out, *token);
     }
+}
+
+// The tokens of a text are written to the beginning of a lent array, folded; their number is returned.
+fn tokenize(text: &[u8], tokens: &mut [Token; 257]) -> usize
+    requires { length text.now ≤ 256 }
+    ensures { result ≤ 257 }
+{
+    let n = lexer::scan_tokens(text, tokens);
+    folding::pre_process(&mut tokens[..n])
 }
 
 // Appends the number of a text's answer, and the tokens of a text that has any.
@@ -42,13 +49,15 @@ fn put_answer(out: &mut Output, text: &[u8]) {
     if !utf8::well_formed(text) {
         return put(out, 3);
     }
-    let mut kinds = [0u8; 257];
-    let mut poss = [0u16; 257];
-    let mut lens = [0u16; 257];
-    let n = lexer::scan_tokens(text, &mut kinds, &mut poss, &mut lens);
-    let e = folding::pre_process(&mut kinds, &mut poss, &mut lens, n);
+    let none = Token {
+        kind: 0,
+        pos: 0,
+        len: 0,
+    };
+    let mut tokens = [none; 257];
+    let n = tokenize(text, &mut tokens);
     put(out, 0);
-    put_tokens(out, &kinds, &poss, &lens, e);
+    put_tokens(out, &tokens[..n]);
 }
 
 fn main(rt: HostRuntime) -> io::Result<()> {
