@@ -68,8 +68,7 @@ fn put_list(out: &mut Buffer, list: IntervalList)
     out.put(&[0; 23][count..]);
 }
 
-fn encode(chord: Chord, bytes: &mut [u8])
-    requires { length bytes.old ≡ 51 }
+fn encode(chord: Chord, bytes: &mut [u8; 51])
     ensures { bytes.new ≡ chord_bytes (four_of chord) }
 {
     let mut out = Buffer::new(bytes);
@@ -213,9 +212,8 @@ fn is_note(letter: u8, alteration: u8) -> bool
     letter < 7 && is_alteration(alteration)
 }
 
-// The set whose members have 1. The bytes come as a slice, since the proof is told the length of an array only where it becomes one.
-fn set_in(bytes: &[u8]) -> IntervalSet
-    requires { length bytes.now ≡ 51 }
+// The set whose members have 1.
+fn set_in(bytes: &[u8; 51]) -> IntervalSet
     ensures { members result ≡ (values_in bytes.now).normalized }
 {
     let mut set = IntervalSet::new();
@@ -229,8 +227,7 @@ fn set_in(bytes: &[u8]) -> IntervalSet
 
 // The list of the count and the 23 numbers behind it.
 #[tactic(auto, unfolding(intervals::specs::Stored::listed, crate::specs::Boundary::values_in))]
-fn list_in(bytes: &[u8]) -> IntervalList
-    requires { length bytes.now ≡ 51 }
+fn list_in(bytes: &[u8; 51]) -> IntervalList
     ensures { listed result ≡ (values_in bytes.now).display }
 {
     let mut numbers = [0; 23];
@@ -242,16 +239,14 @@ fn list_in(bytes: &[u8]) -> IntervalList
 }
 
 // Is each of the 23 bytes 0 or 1?
-fn is_set(bytes: &[u8]) -> bool
-    requires { length bytes.now ≡ 51 }
+fn is_set(bytes: &[u8; 51]) -> bool
     ensures { result ≡ are_bits (take 23 (drop 4 bytes.now)) }
 {
     bytes[4..27].iter().all(|b| *b <= 1)
 }
 
 #[tactic(auto, unfolding(crate::specs::Boundary::inside))]
-fn is_inside(bytes: &[u8]) -> bool
-    requires { length bytes.now ≡ 51 }
+fn is_inside(bytes: &[u8; 51]) -> bool
     ensures { result ≡ inside bytes.now }
 {
     is_note(bytes[0], bytes[1]) && is_note(bytes[2], bytes[3]) && bytes[27] <= 23 && is_set(bytes)
@@ -259,8 +254,7 @@ fn is_inside(bytes: &[u8]) -> bool
 
 // The record that the bytes hold, if they hold one.
 #[tactic(auto, unfolding(crate::specs::Boundary::four_in, crate::specs::Boundary::values_in))]
-fn decode(bytes: &[u8]) -> Option<Chord>
-    requires { length bytes.now ≡ 51 }
+fn decode(bytes: &[u8; 51]) -> Option<Chord>
     ensures { MatchOption result (four_in bytes.now ≡ none) (λ c. four_in bytes.now ≡ some (four_of c)) }
 {
     if !is_inside(bytes) {
@@ -301,8 +295,7 @@ pub fn nophtris_write(chord: &[u8; 51], buffer: &mut [u8], size: &mut u16) -> u8
 }
 
 // Writes the 16 bytes of a set of keys.
-fn put_sounding(out: &mut [u8], keys: Keys)
-    requires { length out.old ≡ 16 }
+fn put_sounding(out: &mut [u8; 16], keys: Keys)
     ensures { out.new ≡ keys_bytes (stored.members keys) }
 {
     for (i, byte) in out.iter_mut().enumerate() {

@@ -13,5 +13,5 @@ returns c =
     let t = chord_bytes (four_of c.args.chord) in
     let b = c.new-out.ensures in
     let w = grew_then c.put_note.ensures (grew_then c.put_note-2.ensures (grew_then c.put_set.ensures c.put_list.ensures)) in
-    put_all {r = c.put_list.new.out.len} t (c.requires ∙ sym (chord-length (four_of c.args.chord)))
-    (put_from b.0 b.1 (rw (c.bytes-1.given.1.1 (sym (w.place ∙ b.2))) w.put))
+    put_all {r = c.put_list.new.out.len} t (c.told-bytes ∙ sym (chord-length (four_of c.args.chord)))
+    (put_from b.0 b.1 w.put)
