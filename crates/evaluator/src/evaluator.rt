@@ -93,7 +93,7 @@ fn apply_pass<F: Fn(IntervalSet, Exp) -> IntervalSet>(
     s
 }
 
-// The interval of the first sus, 0 where there is none.
+// The interval of the first sus, 0 where there is none, as the definition has it.
 fn first_sus(exps: &[Exp]) -> u8
     ensures { result ≡ first_sus exps.now }
 {

@@ -43,7 +43,7 @@ impl SusKind {
         self != SusKind::Plain
     }
 
-    // The interval that is shown; 0 for none.
+    // The interval that is shown; 0 for none, as the definition has it.
     pub(crate) fn sus(self) -> u8
         ensures { result ≡ sus_by self }
     {

@@ -5,6 +5,7 @@ ghost use Rattle.std.specs.Prelude.{◌↔◌, ◌≡◌, true, [], ◌<◌, ◌
 ghost use Rattle.intervals.specs.Interval.{semitones, empty, insert, remove, replace, remove_then_add};
 ghost use Rattle.intervals.specs.Stored.{members, within, listed, list_of};
 
+// Numbers and no enum: a record may be handed over with any numbers in its display list, and is then refused by its text.
 pub const UNISON: u8 = 0;
 
 pub const MINOR_SECOND: u8 = 1;
@@ -64,7 +65,7 @@ pub fn st(interval: u8) -> u8
     SEMITONES[interval as usize]
 }
 
-// The semitones of an interval; 0 of a number that is none.
+// The semitones of an interval; 0 of a number that is none, as the definition has it.
 pub fn semitones_or_zero(interval: u8) -> u8
     ensures { (result ≡ semitones interval) × (result < 23) }
 {

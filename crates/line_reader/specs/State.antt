@@ -23,10 +23,3 @@ pub record NextStepped (r : LineReader) (t : NextStep) (es es' : List ℕ) : Typ
   pub bar : Part r.line (place_at r.line.now r.at).from (place_at r.line.now r.at).to t.bar
   pub line : t.reader.line ≡ r.line
   pub at : t.reader.at ≡ (place_at r.line.now r.at).next
-
--- bookkeeping of a private contract: the step s is handed out as t
-pub record Handed (r : LineReader) (s : CodeStep) (t : CodeNextStep) : Type 0 where
-  pub step : t.step ≡ s
-  pub bar : Part r.line s.from s.to t.bar
-  pub line : t.reader.line ≡ r.line
-  pub at : t.reader.at ≡ s.next

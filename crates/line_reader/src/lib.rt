@@ -1,9 +1,8 @@
 // Song lines: a reader that holds the line and its position hands out one bar after the other.
 #![tactic(auto)]
 
-ghost use Rattle.std.specs.Prelude.{◌≡◌, ◌≤◌, length};
-ghost use Rattle.song.specs.State.{Stepped, shown};
-ghost use Rattle.line_reader.specs.State.{Handed, NextStepped, next_shown};
+ghost use Rattle.std.specs.Prelude.{◌≡◌};
+ghost use Rattle.line_reader.specs.State.{NextStepped, next_shown};
 
 use song::Step;
 
@@ -22,40 +21,26 @@ pub struct NextStep<'a> {
     pub reader: LineReader<'a>,
 }
 
-// A reader at a position of a line: 0 for its first bar.
-pub fn new<'a>(line: &'a [u8], at: usize) -> LineReader<'a>
-    ensures { (result.line ≡ line.entry) × (result.at ≡ at) }
-{
-    LineReader { line, at }
-}
-
-// The step at a reader's position.
-fn step_of<'a>(r: LineReader<'a>, errs: &mut [u16]) -> Step
-    ensures { Stepped r.entry.line.now r.entry.at (shown result) errs.old errs.new }
-{
-    song::step_at(r.line, r.at, errs)
-}
-
-// The bar of a step is cut out of the line, and the reader moves on.
-fn hand_out<'a>(r: LineReader<'a>, s: Step) -> NextStep<'a>
-    requires { (s.from ≤ s.to) × (s.to ≤ length r.line.now) }
-    ensures { Handed r.entry s result }
-{
-    let bar = bars::part(r.line, s.from, s.to);
-    NextStep {
-        step: s,
-        bar,
-        reader: LineReader {
-            line: r.line,
-            at: s.next,
-        },
+impl<'a> LineReader<'a> {
+    // A reader at a position of a line: 0 for its first bar.
+    pub fn new(line: &'a [u8], at: usize) -> LineReader<'a>
+        ensures { (result.line ≡ line.entry) × (result.at ≡ at) }
+    {
+        LineReader { line, at }
     }
-}
 
-// The reader's next step, with any lent list.
-pub fn next<'a>(r: LineReader<'a>, errs: &mut [u16]) -> NextStep<'a>
-    ensures { NextStepped r.entry (next_shown result) errs.old errs.new }
-{
-    let s = step_of(r, errs);
-    hand_out(r, s)
+    // The reader's next step, with any lent list: its bar is cut out of the line, and the reader moves on.
+    pub fn next(self, errs: &mut [u16]) -> NextStep<'a>
+        ensures { NextStepped self.entry (next_shown result) errs.old errs.new }
+    {
+        let step = song::step_at(self.line, self.at, errs);
+        NextStep {
+            step,
+            bar: bars::part(self.line, step.from, step.to),
+            reader: LineReader {
+                at: step.next,
+                ..self
+            },
+        }
+    }
 }

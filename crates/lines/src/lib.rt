@@ -209,6 +209,7 @@ impl<'a> Lines<'a> {
         ensures all { OnOk result (self.new.input.left ≡ 0) }
         ensures none_wait { OnOk result (out.new.used ≡ 0) }
     {
+        // A `while`: a turn takes a line or a block, and says itself whether one may follow.
         while 0 < self.input.left {
             let most = if self.input.at < self.input.end {
                 MUCH

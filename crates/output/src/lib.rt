@@ -112,6 +112,7 @@ fn write_all<W: Write>(to: &mut W, bytes: &[u8]) -> Result<(), Error>
     ensures failed { OnErr result (AppendsPart (W.contents to.old) (W.contents to.new) bytes.now) }
 {
     let mut at = 0;
+    // A `while`: a turn goes on by as many bytes as the writer took.
     while at < bytes.len() {
         let n = to.write(&bytes[at..])?;
         if n == 0 {

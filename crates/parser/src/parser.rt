@@ -99,6 +99,7 @@ fn read_tokens(
     ensures { Read tokens.now inside st result errs.old errs.new exps.old exps.new }
 {
     let mut s = st;
+    // A `while`: a turn goes on by as many tokens as the effect took, or the bracket that was opened.
     while s.at < tokens.len() {
         let last = ends(inside, tokens[s.at]);
         s = take_token(tokens, s, inside, errs, exps);

@@ -49,7 +49,7 @@ pub(crate) fn next_at(tokens: &[Token], i: usize) -> Next
     }
 }
 
-// The position of the token at i; 0 where there is none.
+// The position of the token at i; 0 where there is none, as the definition has it.
 fn pos_at(tokens: &[Token], i: usize) -> u16
     ensures { result ≡ (at tokens.now i).pos }
 {

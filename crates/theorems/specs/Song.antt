@@ -1,7 +1,6 @@
 -- What document 02, [1], says of a song line: of its bars, of one step, and of steps one after the other. The only premises are the
--- contracts of `song::step_at` (`Stepped`) and of `line_reader::next`, which goes through a reader that holds the line (`NextStepped`).
--- What is
--- said of a line and of calls is said once, for the C boundary too (`CSong`).
+-- contracts of `song::step_at` (`Stepped`) and of `LineReader::next`, which goes through a reader that holds the line (`NextStepped`).
+-- What is said of a line and of calls is said once, for the C boundary too (`CSong`).
 use Rattle.std.specs.Prelude.{cond, List, [], ◌∷◌, ◌++◌, map, ◌↔◌, ◌≡◌, ℕ, suc, ◌+◌, ◌-◌, ◌≤◌, ◌<◌, ltb, drop, length, take}
 use Rattle.chord.specs.Chord.{no_chord, record_of}
 use Rattle.chord.specs.declared.Chord.{Chord}

@@ -33,7 +33,8 @@ pub enum TokenType {
     Eof,
 }
 
-// A token of a text: the number of its type, its position and its length.
+// A token of a text: the number of its type, its position and its length. A number and no TokenType: the definitions of the lexer and of
+// the folding, and what is proved of raised numerals, speak of numbers.
 #[derive(Clone, Copy, PartialEq, Eq)]
 pub struct Token {
     pub kind: u8,

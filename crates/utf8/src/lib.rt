@@ -5,7 +5,8 @@ ghost use Rattle.std.specs.Prelude.{◌≡◌, ◌<◌, ◌≤◌, length, get_o
 ghost use Rattle.utf8.specs.State.{More, character, found_of};
 ghost use Rattle.utf8.specs.Utf8.{is_scalar, char_of, char_at, well_formed};
 
-// What stands at a position: a character with its code and its length in bytes, bytes that begin no character, or nothing.
+// What stands at a position: a character with its code and its length in bytes, bytes that begin no character, or nothing. Three cases, so
+// no Option.
 #[derive(Clone, Copy)]
 pub enum Found {
     Char(u32, usize),

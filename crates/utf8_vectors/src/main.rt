@@ -58,6 +58,7 @@ fn put_char(out: &mut Output, bytes: &[u8], at: usize) -> usize
 // Appends what stands in the bytes, from position 0 on.
 fn put_chars(out: &mut Output, bytes: &[u8]) {
     let mut at = 0;
+    // A `while`: a turn goes on by a character.
     while at < bytes.len() {
         at = put_char(out, bytes, at);
     }

@@ -9,11 +9,7 @@ ghost use Rattle.validator.specs.Validator.{all_from, bad_extensions, fault_at, 
 use crate::each::push_each;
 use expression::expression::Exp;
 use expression::parser_error::{Errors, ParserError};
-use intervals::{
-    AUGMENTED_FIFTH, DIMINISHED_FIFTH, DIMINISHED_SEVENTH, ELEVENTH, FLAT_NINTH, FLAT_THIRTEENTH,
-    IntervalSet, MAJOR_SECOND, MAJOR_SEVENTH, MAJOR_SIXTH, MAJOR_THIRD, MINOR_SECOND, MINOR_SIXTH,
-    MINOR_THIRD, NINTH, PERFECT_FIFTH, SHARP_ELEVENTH, SHARP_NINTH, THIRTEENTH, st,
-};
+use intervals::{AUGMENTED_FIFTH, DIMINISHED_FIFTH, DIMINISHED_SEVENTH, ELEVENTH, FLAT_NINTH, FLAT_THIRTEENTH, IntervalSet, MAJOR_SECOND, MAJOR_SEVENTH, MAJOR_SIXTH, MAJOR_THIRD, MINOR_SECOND, MINOR_SIXTH, MINOR_THIRD, NINTH, PERFECT_FIFTH, SHARP_ELEVENTH, SHARP_NINTH, THIRTEENTH, semitones_or_zero};
 
 // Is the interval one that no extension may name?
 fn is_bad_extension(interval: u8) -> bool
@@ -25,13 +21,6 @@ fn is_bad_extension(interval: u8) -> bool
     )
 }
 
-// The semitones of an interval; 0 of a number that is none.
-fn semitones_of(interval: u8) -> u8
-    ensures { (result ≡ semitones interval) × (result < 23) }
-{
-    if interval < 23 { st(interval) } else { 0 }
-}
-
 // What is wrong with an extension; `seen` holds the semitones of the extensions before.
 fn fault_at(seen: IntervalSet, interval: u8, pos: u16) -> Option<ParserError>
     ensures { error_of result ≡ fault_at (members seen) interval pos }
@@ -39,7 +28,7 @@ fn fault_at(seen: IntervalSet, interval: u8, pos: u16) -> Option<ParserError>
     if is_bad_extension(interval) {
         Some(ParserError::InvalidExtension(pos))
     } else {
-        seen.contains(semitones_of(interval))
+        seen.contains(semitones_or_zero(interval))
             .then_some(ParserError::DuplicateExtension(pos))
     }
 }
@@ -54,7 +43,7 @@ fn first_fault(exps: &[Exp]) -> Option<ParserError>
             if let Some(fault) = fault_at(seen, x, pos) {
                 return Some(fault);
             }
-            seen = seen.insert(semitones_of(x));
+            seen = seen.insert(semitones_or_zero(x));
         }
     }
     None

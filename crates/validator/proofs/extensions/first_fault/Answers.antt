@@ -33,7 +33,7 @@ loop-e-preserved c =
     let rest = drop (i + 1) xs in
     let now = c.loop-e.invariant ∙ fault_step xs i Power c.loop-e-test.true s in
     elim c.match-e.branch [
-      | in-Extension+in_default-fault_at w ↦ rw w.seen-is (now ∙ grind (arith, common_steps, w.in-Extension.is, w.in_default-fault_at.ensures, w.insert-seen.ensures, w.semitones_of.ensures))
+      | in-Extension+in_default-fault_at w ↦ rw w.seen-is (now ∙ grind (arith, common_steps, w.in-Extension.is, w.in_default-fault_at.ensures, w.insert-seen.ensures, w.semitones_or_zero.ensures))
       | in_default w ↦
           let p : fault_of s (get_or xs i Power) ≡ [] = search rules in
           let q : seeing s (get_or xs i Power) ≡ s = search rules in
