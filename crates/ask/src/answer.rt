@@ -3,63 +3,25 @@ use chord::Chord;
 use intervals::{IntervalList, IntervalSet};
 use note::Note;
 use output::Output;
-use reader::Reading;
+use reader::Refusal;
 
 // The length of a buffer that has room for each spelling.
 const LONGEST_SPELLING: usize = 112;
 
-// What has a number in the protocol.
-pub(crate) trait Numbered {
-    fn number(&self) -> u64;
-}
-
-impl Numbered for reader::Answer {
-    fn number(&self) -> u64 {
-        match self {
-            reader::Answer::Accepted => 0,
-            reader::Answer::ShortList => 1,
-            reader::Answer::LongText => 2,
-            reader::Answer::NotUtf8 => 3,
-            reader::Answer::Parse(_) => 4,
-            reader::Answer::Validation(_) => 5,
-        }
-    }
-}
-
-impl Numbered for writer::Answer {
-    fn number(&self) -> u64 {
-        match self {
-            writer::Answer::Spelled(_) => 0,
-            writer::Answer::ShortBuffer => 6,
-            writer::Answer::NoText => 7,
-        }
-    }
-}
-
-impl Numbered for endings::Answer {
-    fn number(&self) -> u64 {
-        match self {
-            endings::Answer::Body | endings::Answer::Ending => 0,
-            endings::Answer::TooLong => 8,
-            endings::Answer::NoBar => 9,
-        }
-    }
-}
-
-impl Numbered for midi::Answer {
-    fn number(&self) -> u64 {
-        match self {
-            midi::Answer::Sent(_) => 0,
-            midi::Answer::NoText => 7,
-            midi::Answer::OutsideKeys => 10,
-            midi::Answer::ShortOutput => 11,
-        }
+// The number of why a text was refused.
+fn number_of(refusal: Refusal) -> u8 {
+    match refusal {
+        Refusal::ShortList => 1,
+        Refusal::LongText => 2,
+        Refusal::NotUtf8 => 3,
+        Refusal::Parse(_) => 4,
+        Refusal::Validation(_) => 5,
     }
 }
 
 // Appends the number of an answer.
-pub(crate) fn put_answer<A: Numbered>(out: &mut Output, answer: &A) {
-    out.put_number(answer.number(), 0);
+pub(crate) fn put_answer(out: &mut Output, number: u8) {
+    out.put_number(u64::from(number), 0);
 }
 
 // Appends a number behind a space.
@@ -73,8 +35,8 @@ fn put_note(out: &mut Output, note: Option<Note>) {
     match note {
         None => out.put_bytes(b" -1 0"),
         Some(n) => {
-            put_next(out, u64::from(n.literal.number()));
-            put_alteration(out, n.modifier.alteration());
+            put_next(out, u64::from(u8::from(n.literal)));
+            put_alteration(out, i8::from(n.modifier));
         }
     }
 }
@@ -97,15 +59,16 @@ fn put_set(out: &mut Output, set: IntervalSet) {
 
 // Appends the count of the numbers of a list, and the numbers.
 fn put_list(out: &mut Output, list: IntervalList) {
-    let n = list.count();
-    put_next(out, n as u64);
-    for number in &list.numbers[..n] {
+    let numbers = list.as_slice();
+    put_next(out, numbers.len() as u64);
+    for number in numbers {
         put_next(out, u64::from(*number));
     }
 }
 
-// Appends a record.
+// Appends 0, and a record.
 fn put_record(out: &mut Output, chord: Chord) {
+    put_answer(out, 0);
     put_note(out, chord.root);
     put_note(out, chord.bass);
     put_set(out, chord.normalized);
@@ -120,52 +83,54 @@ fn put_errors(out: &mut Output, errs: &[u16], n: u16) {
     }
 }
 
+// Appends the number of why a text was refused, and the errors, if there are any.
+fn put_refusal(out: &mut Output, refusal: Refusal, errs: &[u16]) {
+    put_answer(out, number_of(refusal));
+    if let Refusal::Parse(n) | Refusal::Validation(n) = refusal {
+        put_errors(out, errs, n);
+    }
+}
+
 // Appends what a text was answered.
-pub(crate) fn put_reading(out: &mut Output, reading: Reading, errs: &[u16]) {
-    put_answer(out, &reading.answer);
-    match reading.answer {
-        reader::Answer::Accepted => put_record(out, reading.chord),
-        reader::Answer::Parse(n) | reader::Answer::Validation(n) => put_errors(out, errs, n),
-        _ => {}
+pub(crate) fn put_reading(out: &mut Output, read: Result<Chord, Refusal>, errs: &[u16]) {
+    match read {
+        Ok(chord) => put_record(out, chord),
+        Err(refusal) => put_refusal(out, refusal, errs),
     }
 }
 
-// The record of an accepted text, or why it was refused.
-pub(crate) fn accepted(reading: Reading) -> Result<Chord, reader::Answer> {
-    match reading.answer {
-        reader::Answer::Accepted => Ok(reading.chord),
-        refusal => Err(refusal),
-    }
-}
-
-// Appends the spelling of a record.
-fn put_spelled(out: &mut Output, chord: Chord) {
-    let mut buffer = [0u8; LONGEST_SPELLING];
-    match writer::write(chord, &mut buffer) {
-        writer::Answer::Spelled(n) => out.put_first(&buffer, n),
-        refusal => put_answer(out, &refusal),
-    }
+// Writes the spelling of what was read and gives its length, or else the number.
+fn spell(read: Result<Chord, Refusal>, buffer: &mut [u8]) -> Result<usize, u8> {
+    let chord = read.map_err(number_of)?;
+    Ok(writer::write(chord, buffer)?)
 }
 
 // Appends the spelling of what was read, or the number.
-pub(crate) fn put_spelling(out: &mut Output, reading: Reading) {
-    match accepted(reading) {
-        Ok(chord) => put_spelled(out, chord),
-        Err(refusal) => put_answer(out, &refusal),
+pub(crate) fn put_spelling(out: &mut Output, read: Result<Chord, Refusal>) {
+    let mut buffer = [0u8; LONGEST_SPELLING];
+    match spell(read, &mut buffer) {
+        Ok(n) => out.put_first(&buffer, n),
+        Err(number) => put_answer(out, number),
     }
+}
+
+// Appends 0, the length of a spelling, and the spelling, which the buffer begins with.
+fn put_spelled(out: &mut Output, buffer: &[u8], n: usize) {
+    put_answer(out, 0);
+    put_next(out, n as u64);
+    out.put(b' ');
+    out.put_first(buffer, n);
 }
 
 // Appends what a record was answered, with this buffer: behind 0 the length of the spelling, and the spelling.
 pub(crate) fn put_written(out: &mut Output, record: Option<Chord>, buffer: &mut [u8]) {
-    let answer = match record {
+    let written = match record {
         Some(chord) => writer::write(chord, buffer),
-        None if buffer.len() < LONGEST_SPELLING => writer::Answer::ShortBuffer,
-        None => writer::Answer::NoText,
+        None if buffer.len() < LONGEST_SPELLING => Err(writer::Refusal::ShortBuffer),
+        None => Err(writer::Refusal::NoText),
     };
-    put_answer(out, &answer);
-    if let writer::Answer::Spelled(n) = answer {
-        put_next(out, n as u64);
-        out.put(b' ');
-        out.put_first(buffer, n);
+    match written {
+        Ok(n) => put_spelled(out, buffer, n),
+        Err(refusal) => put_answer(out, u8::from(refusal)),
     }
 }

@@ -153,8 +153,8 @@ fn lent<T>(all: &mut [T], n: u64) -> &mut [T] {
 fn answer_read(out: &mut Output, list: u64, text: &[u8]) {
     let mut errs = [0u16; LONGEST_LIST];
     let errs = lent(&mut errs, list);
-    let reading = reader::read(text, errs);
-    put_reading(out, reading, errs);
+    let read = reader::read(text, errs);
+    put_reading(out, read, errs);
 }
 
 // Answers `spell`.

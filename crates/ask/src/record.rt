@@ -1,6 +1,5 @@
 // The record of a question: root letter (-1 none), alteration, bass letter, alteration, count and members of N, count and members of the
 // display list; or `=` and the text that it is read from.
-use crate::answer::accepted;
 use crate::fault::Fault;
 use crate::number::Words;
 use chord::Chord;
@@ -64,7 +63,7 @@ fn chord_of(
 // The record that is read from a text; a text that is refused has none.
 fn chord_in(text: &[u8]) -> Option<Chord> {
     let mut errs = [0u16; 1028];
-    accepted(reader::read(text, &mut errs)).ok()
+    reader::read(text, &mut errs).ok()
 }
 
 impl<'a> Words<'a> {

@@ -2,7 +2,7 @@
 use crate::answer::{put_answer, put_next};
 use chord::Chord;
 use keys::Keys;
-use midi::Answer;
+use midi::Refusal;
 use output::Output;
 
 // The hexadecimal digits, in capitals, which `io::hex` does not write.
@@ -15,8 +15,9 @@ fn put_pair(out: &mut Output, byte: u8) {
     out.put(DIGITS[usize::from(byte % 16)]);
 }
 
-// Appends the length of the messages, and the messages, which the bytes begin with.
+// Appends 0, the length of the messages, and the messages, which the bytes begin with.
 fn put_messages(out: &mut Output, bytes: &[u8], n: usize) {
+    put_answer(out, 0);
     put_next(out, n as u64);
     for byte in bytes.iter().take(n) {
         put_pair(out, *byte);
@@ -31,14 +32,12 @@ pub(crate) fn put_change(
     record: Option<Chord>,
     bytes: &mut [u8],
 ) {
-    let Some(chord) = record else {
-        put_answer(out, &Answer::NoText);
-        return;
+    let sent = match record {
+        Some(chord) => midi::next(keys, base, chord, bytes),
+        None => Err(Refusal::NoText),
     };
-    let step = midi::next(*keys, base, chord, bytes);
-    *keys = step.keys;
-    put_answer(out, &step.answer);
-    if let Answer::Sent(n) = step.answer {
-        put_messages(out, bytes, n);
+    match sent {
+        Ok(n) => put_messages(out, bytes, n),
+        Err(refusal) => put_answer(out, u8::from(refusal)),
     }
 }

@@ -2,8 +2,9 @@
 ghost use Rattle.std.specs.Prelude.{◌≤◌};
 
 use crate::answer::{put_next, put_reading};
+use chord::Chord;
 use output::Output;
-use reader::Reading;
+use reader::Refusal;
 use song::{Answer, Step};
 use std::io;
 use std::io::Write;
@@ -15,15 +16,14 @@ const HALF: usize = 32768;
 const MOST_STEPS: usize = 4098;
 
 // Appends where a bar lies, and what it was answered.
-fn put_bar(out: &mut Output, answer: reader::Answer, step: Step, errs: &[u16])
+fn put_bar(out: &mut Output, read: Result<Chord, Refusal>, step: Step, errs: &[u16])
     requires { step.from ≤ step.to }
 {
     out.put_bytes(b" bar");
     put_next(out, step.from as u64);
     put_next(out, (step.to - step.from) as u64);
     out.put(b' ');
-    let chord = step.chord;
-    put_reading(out, Reading { answer, chord }, errs);
+    put_reading(out, read, errs);
 }
 
 // Appends what a step said.
@@ -33,7 +33,7 @@ fn put_said(out: &mut Output, step: Step, errs: &[u16])
     match step.answer {
         Answer::TooLong => out.put_bytes(b" 8"),
         Answer::End => out.put_bytes(b" end"),
-        Answer::Bar(answer) => put_bar(out, answer, step, errs),
+        Answer::Bar(read) => put_bar(out, read, step, errs),
     }
 }
 

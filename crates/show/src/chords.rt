@@ -6,6 +6,12 @@ use note::{Note, NoteLiteral, RootModifier};
 use std::io::Write;
 use std::{fmt, io};
 
+// Writes the house spelling of a chord; none where the chord has no text.
+fn spelled(chord: Chord, buffer: &mut [u8]) -> Option<&str> {
+    let n = writer::write(chord, buffer).ok()?;
+    str::from_utf8(buffer.get(..n)?).ok()
+}
+
 // The house spelling of a chord.
 #[derive(Clone, Copy)]
 struct Spelling(Chord);
@@ -13,15 +19,7 @@ struct Spelling(Chord);
 impl fmt::Display for Spelling {
     fn fmt<W: fmt::Write>(&self, f: &mut fmt::Formatter<W>) -> fmt::Result {
         let mut buffer = [0u8; 112];
-        let spelled = match writer::write(self.0, &mut buffer) {
-            writer::Answer::Spelled(n) => buffer.get(..n),
-            writer::Answer::ShortBuffer | writer::Answer::NoText => None,
-        };
-        f.write_str(
-            spelled
-                .and_then(|bytes| str::from_utf8(bytes).ok())
-                .unwrap_or("?"),
-        )
+        f.write_str(spelled(self.0, &mut buffer).unwrap_or("?"))
     }
 }
 

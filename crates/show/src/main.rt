@@ -10,10 +10,11 @@ mod errors;
 mod print;
 mod songs;
 
+use chord::Chord;
 use chords::put_chord;
 use errors::put_errors;
 use lines::Lines;
-use reader::{Answer, Reading};
+use reader::Refusal;
 use songs::{is_song, show_song};
 use std::env::{Env, FillError};
 use std::io;
@@ -23,15 +24,17 @@ use std::io::{Read, Write};
 pub(crate) fn put_reading<W: Write>(
     to: &mut W,
     text: &[u8],
-    reading: Reading,
+    read: Result<Chord, Refusal>,
     errs: &[u16],
 ) -> io::Result<()> {
-    match (reading.answer, str::from_utf8(text)) {
-        (Answer::ShortList, _) => writeln!(to, "the list of errors is too short"),
-        (Answer::LongText, _) => writeln!(to, "the text has more than 256 bytes"),
-        (Answer::NotUtf8, _) | (_, Err(_)) => writeln!(to, "the text is not UTF-8"),
-        (Answer::Accepted, Ok(text)) => put_chord(to, text, reading.chord),
-        (Answer::Parse(n) | Answer::Validation(n), Ok(text)) => put_errors(to, text, errs, n),
+    match (read, str::from_utf8(text)) {
+        (Err(Refusal::ShortList), _) => writeln!(to, "the list of errors is too short"),
+        (Err(Refusal::LongText), _) => writeln!(to, "the text has more than 256 bytes"),
+        (Err(Refusal::NotUtf8), _) | (_, Err(_)) => writeln!(to, "the text is not UTF-8"),
+        (Ok(chord), Ok(text)) => put_chord(to, text, chord),
+        (Err(Refusal::Parse(n) | Refusal::Validation(n)), Ok(text)) => put_errors(
+            to, text, errs, n,
+        ),
     }
 }
 
@@ -41,8 +44,8 @@ fn show<W: Write>(to: &mut W, text: &[u8]) -> io::Result<()> {
     if is_song(text) {
         return show_song(to, text, &mut errs);
     }
-    let reading = reader::read(text, &mut errs);
-    put_reading(to, text, reading, &errs)
+    let read = reader::read(text, &mut errs);
+    put_reading(to, text, read, &errs)
 }
 
 // What of a line is the card: a carriage return before the newline belongs to the line's end.

@@ -2,7 +2,6 @@
 ghost use Rattle.std.specs.Prelude.{◌≤◌, length};
 
 use crate::put_reading;
-use reader::Reading;
 use song::{Answer, Step};
 use std::io;
 use std::io::Write;
@@ -28,13 +27,9 @@ fn put_step<W: Write>(
     match step.answer {
         Answer::TooLong => writeln!(to, "the line has more than 4096 bytes"),
         Answer::End => Ok(()),
-        Answer::Bar(answer) => {
+        Answer::Bar(read) => {
             writeln!(to, "bar {number}")?;
-            let reading = Reading {
-                answer,
-                chord: step.chord,
-            };
-            put_reading(to, &line[step.from..step.to], reading, errs)
+            put_reading(to, &line[step.from..step.to], read, errs)
         }
     }
 }
