@@ -9,7 +9,11 @@ ghost use Rattle.validator.specs.Validator.{all_from, bad_extensions, fault_at, 
 use crate::each::push_each;
 use expression::expression::Exp;
 use expression::parser_error::{Errors, ParserError};
-use intervals::{AUGMENTED_FIFTH, DIMINISHED_FIFTH, DIMINISHED_SEVENTH, ELEVENTH, FLAT_NINTH, FLAT_THIRTEENTH, IntervalSet, MAJOR_SECOND, MAJOR_SEVENTH, MAJOR_SIXTH, MAJOR_THIRD, MINOR_SECOND, MINOR_SIXTH, MINOR_THIRD, NINTH, PERFECT_FIFTH, SHARP_ELEVENTH, SHARP_NINTH, THIRTEENTH, semitones_or_zero};
+use intervals::{
+    AUGMENTED_FIFTH, DIMINISHED_FIFTH, DIMINISHED_SEVENTH, ELEVENTH, FLAT_NINTH, FLAT_THIRTEENTH,
+    IntervalSet, MAJOR_SECOND, MAJOR_SEVENTH, MAJOR_SIXTH, MAJOR_THIRD, MINOR_SECOND, MINOR_SIXTH,
+    MINOR_THIRD, NINTH, PERFECT_FIFTH, SHARP_ELEVENTH, SHARP_NINTH, THIRTEENTH, semitones_or_zero,
+};
 
 // Is the interval one that no extension may name?
 fn is_bad_extension(interval: u8) -> bool
