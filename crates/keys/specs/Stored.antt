@@ -1,22 +1,19 @@
 -- Sets of keys as the code stores them, the digits of two numbers; as 16 bytes; and what it holds of the keys that a chord wants.
-use Rattle.std.specs.Prelude.{true, false, MatchOption, Option, cond, ◌&&◌, List, [], ◌∷◌, ◌++◌, ◌≡◌, ℕ, zero, suc, ◌+◌, ◌-◌, ◌*◌, ◌/◌, ◌%◌, eqb, ltb, ℤ, get_or}
+use Rattle.std.specs.Prelude.{cond, ◌&&◌, List, [], ◌∷◌, ◌++◌, ◌≡◌, ℕ, zero, suc, ◌+◌, ◌-◌, ◌*◌, ◌/◌, ◌%◌, eqb, ltb, ℤ, get_or}
 use Rattle.intervals.specs.Interval.{Set}
 use Rattle.intervals.specs.Stored.{bit, digits}
 use Rattle.keys.specs.Keys.{outside, wants}
 use Rattle.keys.specs.declared.Keys.{Keys}
+use Rattle.keys.specs.declared.wanted.Wanted.{Wanted}
 
 -- the members of the code's set: those of the 128 keys whose digit is a 1
 unfoldable pub members : Keys → Set
 members s k = ltb k 128 && cond (ltb k 64) (bit s.low k) (bit s.high (k - 64))
 
--- the keys of zs are from 0 to 127, and they are the members
-pub record Holds (keys : Keys) (zs : List ℤ) : Type 0 where
-  pub inside : outside zs ≡ false
-  pub all : members keys ≡ wants zs
-
--- what the code has of the keys wanted: their set, or none where one falls outside 0 to 127
-abbrev pub Wants : Option Keys → List ℤ → Type 0
-Wants w zs = MatchOption w (outside zs ≡ true) (λ keys. Holds keys zs)
+-- the code's record of the keys wanted holds those from 0 to 127, and whether there are others
+pub record Wants (w : Wanted) (zs : List ℤ) : Type 0 where
+  pub others : w.outside ≡ outside zs
+  pub within : (k : ℕ) → members w.keys k ≡ (ltb k 128 && wants zs k)
 
 -- ---- as 16 bytes
 

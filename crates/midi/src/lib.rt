@@ -44,9 +44,11 @@ pub fn next(sounding: &mut Keys, base: u8, chord: Chord, out: &mut [u8]) -> Resu
     if !has_text(chord) {
         return Err(Refusal::NoText);
     }
-    let Some(keys) = keys_of(base, chord) else {
+    let wanted = keys_of(base, chord);
+    if wanted.outside {
         return Err(Refusal::OutsideKeys);
-    };
+    }
+    let keys = wanted.keys;
     if out.len() < length_between(*sounding, keys) {
         return Err(Refusal::ShortOutput);
     }

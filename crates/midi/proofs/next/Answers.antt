@@ -7,6 +7,7 @@ use native.Mathlib.Omega.{arith}
 use lib.ListN.{length}
 use Rattle.chord.specs.Chord.{four_of}
 use Rattle.intervals.specs.Interval.{Set}
+use Rattle.keys.proofs.Wanting.{same_set}
 use Rattle.keys.specs.Keys.{keys_of, outside, wants}
 use Rattle.keys.specs.Stored.{members}
 use Rattle.midi.proofs.Answers.{gave_refused, gave_sent, next-no_text, next-outside, next-sent, next-short}
@@ -14,7 +15,6 @@ use Rattle.midi.specs.Midi.{between}
 use Rattle.midi.specs.declared.Refusal.TheVariants.{NoText, OutsideKeys, ShortOutput}
 use Rattle.writer.proofs.Answers.{is_test, negated}
 use Rattle.writer.proofs.Puts.{put_as, put_from}
-use Rattle.std.proofs.Common.{rules, true}
 use Rattle.midi.proofs.next.Goals as goal
 
 pub returns-then-not-has_text : goal.returns-then-not-has_text
@@ -25,13 +25,13 @@ returns-then-not-has_text c =
     let e = is_test a.chord t.result t.ensures ∙ negated _ _ c.if-not-has_text.true-raw in
     gave_refused NoText a.sounding.now a.out.now (next-no_text _ s a.base (four_of a.chord) e)
 
-pub returns-in_default : goal.returns-in_default
-returns-in_default c =
+pub returns-then-wanted : goal.returns-then-wanted
+returns-then-wanted c =
     let a = c.args in
     let s = members a.sounding.now in
     let t = c.has_text in
     let e = is_test a.chord t.result t.ensures ∙ negated _ _ c.if-not-has_text.false-raw in
-    let o : outside (keys_of a.base (four_of a.chord)) ≡ true = search (rules, c.in_default) in
+    let o = sym c.keys_of-wanted.ensures.others ∙ c.if-wanted.true in
     gave_refused OutsideKeys a.sounding.now a.out.now (next-outside _ s a.base (four_of a.chord) e o)
 
 pub returns-then-out-length_between : goal.returns-then-out-length_between
@@ -40,10 +40,10 @@ returns-then-out-length_between c =
     let s = members a.sounding.now in
     let f = four_of a.chord in
     let t = c.has_text in
-    let w = c.in-Some.ensures in
+    let w = c.keys_of-wanted.ensures in
     let e = is_test a.chord t.result t.ensures ∙ negated _ _ c.if-not-has_text.false-raw in
-    let o : outside (keys_of a.base f) ≡ false = w.inside in
-    let l = ap (λ (u : Set). length (between s u)) w.all in
+    let o : outside (keys_of a.base f) ≡ false = sym w.others ∙ c.if-wanted.false in
+    let l = ap (λ (u : Set). length (between s u)) (same_set (keys_of a.base f) w o) in
     let h : length a.out.now < length (between s (wants (keys_of a.base f))) =
     omega (arith, c.if-out-length_between.true, c.length_between.ensures, l)
     in
@@ -55,10 +55,10 @@ returns c =
     let s = members a.sounding.now in
     let f = four_of a.chord in
     let t = c.has_text in
-    let w = c.in-Some.ensures in
+    let w = c.keys_of-wanted.ensures in
     let e = is_test a.chord t.result t.ensures ∙ negated _ _ c.if-not-has_text.false-raw in
-    let o : outside (keys_of a.base f) ≡ false = w.inside in
-    let q = w.all in
+    let o : outside (keys_of a.base f) ≡ false = sym w.others ∙ c.if-wanted.false in
+    let q = same_set (keys_of a.base f) w o in
     let l = ap (λ (u : Set). length (between s u)) q in
     let h : length (between s (wants (keys_of a.base f))) ≤ length a.out.now =
     omega (arith, c.if-out-length_between.false, c.length_between.ensures, l)

@@ -1,10 +1,9 @@
--- The invariant: the keys are those of the numbers passed.
--- Assumes nothing.
-use lib.ListN.{take}
+-- The invariant: the keys of the numbers passed are wanted.
+use Rattle.std.proofs.Common.{take}
 use Rattle.intervals.specs.Stored.{listed}
 use Rattle.keys.specs.Keys.{display_keys}
-use Rattle.keys.specs.Stored.{Holds}
+use Rattle.keys.specs.Stored.{Wants}
 use Rattle.keys.proofs.wanted.add_list.Given as goal
 
 abbrev pub invariant-loop-interval : goal.invariant-loop-interval
-invariant-loop-interval l = Holds l.keys (display_keys l.from (take l.interval-index (listed l.fn.list)))
+invariant-loop-interval l = Wants l.w (display_keys l.from (take l.interval-index (listed l.fn.list)))
