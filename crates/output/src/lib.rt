@@ -12,7 +12,6 @@ use std::io::{Error, ErrorKind, Write};
 pub struct Output<'a> {
     pub buffer: &'a mut [u8],
     pub used: usize,
-    pub ghost within: { used ≤ length buffer.now },
 }
 
 impl<'a> Output<'a> {
@@ -23,11 +22,16 @@ impl<'a> Output<'a> {
         Output { buffer, used: 0 }
     }
 
-    // The bytes that wait.
+    // The bytes that wait; none where the buffer has fewer than are counted.
     pub fn waiting(&self) -> &[u8]
-        ensures { result.now ≡ take self.now.used self.now.buffer.now }
+        ensures bytes { self.now.used ≤ length self.now.buffer.now → result.now ≡ take self.now.used self.now.buffer.now }
+        ensures beyond { length self.now.buffer.now < self.now.used → result.now ≡ [] }
     {
-        &self.buffer[..self.used]
+        if self.used <= self.buffer.len() {
+            &self.buffer[..self.used]
+        } else {
+            &[]
+        }
     }
 
     // Appends a byte, while there is room.
@@ -78,12 +82,16 @@ impl<'a> Output<'a> {
     // Writes all that waits; none waits then. After an error the writer has a first part of it, and it waits as before.
     pub fn flush<W: Write>(&mut self, to: &mut W) -> Result<(), Error>
         ensures none_wait { OnOk result (self.new.used ≡ 0) }
+        ensures beyond { length self.old.buffer.now < self.old.used → result ≡ Ok tt }
         ensures buffer { self.new.buffer.now ≡ self.old.buffer.now }
-        ensures written { OnOk result (Appends (W.contents to.old) (W.contents to.new) (take self.old.used self.old.buffer.now)) }
+        ensures written { self.old.used ≤ length self.old.buffer.now →
+            OnOk result (Appends (W.contents to.old) (W.contents to.new) (take self.old.used self.old.buffer.now)) }
         ensures waits { OnErr result (self.new.used ≡ self.old.used) }
         ensures failed { OnErr result (AppendsPart (W.contents to.old) (W.contents to.new) (take self.old.used self.old.buffer.now)) }
     {
-        write_all(to, self.waiting())?;
+        if self.used <= self.buffer.len() {
+            write_all(to, self.waiting())?;
+        }
         self.used = 0;
         Ok(())
     }
@@ -94,7 +102,7 @@ impl<'a> Output<'a> {
         ensures kept { self.old.used < most → to.new ≡ to.old }
         ensures enough { self.old.used < most → result ≡ Ok tt }
         ensures buffer { self.new.buffer.now ≡ self.old.buffer.now }
-        ensures written { most ≤ self.old.used →
+        ensures written { most ≤ self.old.used → self.old.used ≤ length self.old.buffer.now →
             OnOk result (Appends (W.contents to.old) (W.contents to.new) (take self.old.used self.old.buffer.now)) }
         ensures waits { OnErr result (self.new.used ≡ self.old.used) }
         ensures failed { OnErr result (AppendsPart (W.contents to.old) (W.contents to.new) (take self.old.used self.old.buffer.now)) }
