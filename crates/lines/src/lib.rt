@@ -65,7 +65,8 @@ fn to_newline(bytes: &[u8]) -> usize
 // Takes the bytes of the block up to its next newline, with it.
 fn take(block: &[u8], line: &mut Output, s: Input) -> Input
     requires { Inside s block.now line.old.buffer.now × (0 < s.left) }
-    ensures { Took s result block.now line.old.buffer.now line.new.buffer.now }
+    ensures took { Took s result block.now line.old.buffer.now line.new.buffer.now }
+    ensures same_reference { line.new.buffer.ghost_name ≡ line.old.buffer.ghost_name }
 {
     let stop = s.at + to_newline(&block[s.at..s.end]);
     line.used = s.kept();
@@ -131,6 +132,7 @@ fn fill<R: Read>(from: &mut R, block: &mut [u8], s: Input) -> io::Result<Input>
 fn next<R: Read>(from: &mut R, block: &mut [u8], line: &mut Output, s: Input) -> io::Result<Input>
     requires { Inside s block.old line.old.buffer.now × (0 < s.left) }
     ensures next { IfOk result (λ r. Next s r block.old block.new line.old.buffer.now line.new.buffer.now) }
+    ensures same_reference { line.new.buffer.ghost_name ≡ line.old.buffer.ghost_name }
     ensures bytes { s.at ≡ s.end → IfOk result (λ r. Consumes (R.remaining from.old) (R.remaining from.new) (take r.end block.new)) }
     ensures unread { s.at < s.end → from.new ≡ from.old }
     ensures failed { OnErr result (Failed s block.new line.old.buffer.now line.new.buffer.now) }
@@ -154,7 +156,9 @@ pub struct Lines<'a> {
 impl<'a> Lines<'a> {
     // Nothing is read yet.
     pub fn new(block: &'a mut [u8], line: &'a mut [u8]) -> Lines<'a>
-        ensures { (result.input ≡ nothing_read) × (result.block.now ≡ block.old) × (result.line.buffer.now ≡ line.old) }
+        ensures begun { (result.input ≡ nothing_read) × (result.block.now ≡ block.old) × (result.line.buffer.now ≡ line.old) }
+        ensures same_reference { (result.block.ghost_name ≡ block.entry.ghost_name)
+            × (result.line.buffer.ghost_name ≡ line.entry.ghost_name) }
     {
         Lines {
             block,
@@ -179,6 +183,8 @@ impl<'a> Lines<'a> {
         ensures bytes { self.old.input.at ≡ self.old.input.end →
             OnOk result (Consumes (R.remaining from.old) (R.remaining from.new) (take self.new.input.end self.new.block.now)) }
         ensures unread { self.old.input.at < self.old.input.end → from.new ≡ from.old }
+        ensures same_reference { (self.new.block.ghost_name ≡ self.old.block.ghost_name)
+            × (self.new.line.buffer.ghost_name ≡ self.old.line.buffer.ghost_name) }
         ensures state { OnErr result (self.new.input ≡ self.old.input) }
         ensures failed { OnErr result (Failed self.old.input self.new.block.now self.old.line.buffer.now self.new.line.buffer.now) }
         ensures none_lost { OnErr result (Keeps (R.remaining from.old) (R.remaining from.new)) }

@@ -17,7 +17,8 @@ pub struct Output<'a> {
 impl<'a> Output<'a> {
     // Nothing waits.
     pub fn new(buffer: &'a mut [u8]) -> Output<'a>
-        ensures { (result.used ≡ 0) × (result.buffer.now ≡ buffer.old) }
+        ensures none { (result.used ≡ 0) × (result.buffer.now ≡ buffer.old) }
+        ensures same_reference { result.buffer.ghost_name ≡ buffer.entry.ghost_name }
     {
         Output { buffer, used: 0 }
     }
@@ -36,7 +37,8 @@ impl<'a> Output<'a> {
 
     // Appends a byte, while there is room.
     pub fn put(&mut self, byte: u8)
-        ensures { Put (byte ∷ []) self.old.used self.new.used self.old.buffer.now self.new.buffer.now }
+        ensures put { Put (byte ∷ []) self.old.used self.new.used self.old.buffer.now self.new.buffer.now }
+        ensures same_reference { self.new.buffer.ghost_name ≡ self.old.buffer.ghost_name }
     {
         if self.used < self.buffer.len() {
             self.buffer[self.used] = byte;
@@ -46,7 +48,8 @@ impl<'a> Output<'a> {
 
     // Appends bytes, while there is room.
     pub fn put_bytes(&mut self, bytes: &[u8])
-        ensures { Put bytes.now self.old.used self.new.used self.old.buffer.now self.new.buffer.now }
+        ensures put { Put bytes.now self.old.used self.new.used self.old.buffer.now self.new.buffer.now }
+        ensures same_reference { self.new.buffer.ghost_name ≡ self.old.buffer.ghost_name }
     {
         for byte in bytes {
             self.put(*byte);
@@ -55,14 +58,16 @@ impl<'a> Output<'a> {
 
     // Appends the first n of some bytes, or all where there are fewer.
     pub fn put_first(&mut self, bytes: &[u8], n: usize)
-        ensures { Put (take n bytes.now) self.old.used self.new.used self.old.buffer.now self.new.buffer.now }
+        ensures put { Put (take n bytes.now) self.old.used self.new.used self.old.buffer.now self.new.buffer.now }
+        ensures same_reference { self.new.buffer.ghost_name ≡ self.old.buffer.ghost_name }
     {
         self.put_bytes(&bytes[..n.min(bytes.len())]);
     }
 
     // Appends n spaces.
     fn put_spaces(&mut self, n: usize)
-        ensures { Put (replicate n 32) self.old.used self.new.used self.old.buffer.now self.new.buffer.now }
+        ensures put { Put (replicate n 32) self.old.used self.new.used self.old.buffer.now self.new.buffer.now }
+        ensures same_reference { self.new.buffer.ghost_name ≡ self.old.buffer.ghost_name }
     {
         for _ in 0..n {
             self.put(b' ');
@@ -71,7 +76,8 @@ impl<'a> Output<'a> {
 
     // Appends a number in decimal, right-justified in so many columns; a wider one in full.
     pub fn put_number(&mut self, n: u64, columns: usize)
-        ensures { PutNumber n columns self.old.used self.new.used self.old.buffer.now self.new.buffer.now }
+        ensures put { PutNumber n columns self.old.used self.new.used self.old.buffer.now self.new.buffer.now }
+        ensures same_reference { self.new.buffer.ghost_name ≡ self.old.buffer.ghost_name }
     {
         let mut text = [0u8; 20];
         let k = io::decimal(n, &mut text);
@@ -84,6 +90,7 @@ impl<'a> Output<'a> {
         ensures none_wait { OnOk result (self.new.used ≡ 0) }
         ensures beyond { length self.old.buffer.now < self.old.used → result ≡ Ok tt }
         ensures buffer { self.new.buffer.now ≡ self.old.buffer.now }
+        ensures same_reference { self.new.buffer.ghost_name ≡ self.old.buffer.ghost_name }
         ensures written { self.old.used ≤ length self.old.buffer.now →
             OnOk result (Appends (W.contents to.old) (W.contents to.new) (take self.old.used self.old.buffer.now)) }
         ensures waits { OnErr result (self.new.used ≡ self.old.used) }
@@ -102,6 +109,7 @@ impl<'a> Output<'a> {
         ensures kept { self.old.used < most → to.new ≡ to.old }
         ensures enough { self.old.used < most → result ≡ Ok tt }
         ensures buffer { self.new.buffer.now ≡ self.old.buffer.now }
+        ensures same_reference { self.new.buffer.ghost_name ≡ self.old.buffer.ghost_name }
         ensures written { most ≤ self.old.used → self.old.used ≤ length self.old.buffer.now →
             OnOk result (Appends (W.contents to.old) (W.contents to.new) (take self.old.used self.old.buffer.now)) }
         ensures waits { OnErr result (self.new.used ≡ self.old.used) }

@@ -4,7 +4,7 @@ use Rattle.lines.proofs.next.Goals as goal
 
 pub returns-then-s-clause-next : goal.returns-then-s-clause-next
 returns-then-s-clause-next g c =
-    let took = c.take.ensures in
+    let took = c.take.ensures.took in
     record {
       inside = took_inside c.requires.0 c.requires.1 took;
       fewer = omega (arith, took.left, c.requires.1);
