@@ -18,7 +18,7 @@ pub enum Found {
 }
 
 // What a step finds, where the bar lies (from its first byte to the one behind its last), and where the reader goes. No Option or Result:
-// the place that the reader goes to is said of every step, also of one without a bar.
+// the place that the reader goes to is said of every step, also of one without a bar (`stayed`), and so are `from` and `to`.
 #[derive(Clone, Copy)]
 pub struct Place {
     pub found: Found,

@@ -70,8 +70,8 @@ fn in_order(k: u8, s: IntervalSet) -> IntervalList
     list
 }
 
-// The display list of a set, where the first sus is of the interval k; k is any other number where there is none. In each case k is known,
-// so that the loop has no test of it.
+// The display list of a set, where the first sus is of the interval k; k is any other number where there is none: a number and no
+// Option, as `display_of` and `first_sus` have it. In each case k is known, so that the loop has no test of it.
 pub fn display(k: u8, s: IntervalSet) -> IntervalList
     ensures { (result ≡ list_of (display_of k (members s))) × (listed result ≡ display_of k (members s)) }
 {

@@ -51,7 +51,7 @@ pub(crate) fn is_maj(e: Exp) -> bool
     matches!(e, Exp::Maj | Exp::Maj7)
 }
 
-// An extension 9, 11 or 13, else 0.
+// An extension 9, 11 or 13, else 0, as `ext_of` has it: the tallest is then the greatest number.
 fn tall(interval: u8) -> u8
     ensures { result ≡ ext_of (exp.Extension interval 0) }
 {

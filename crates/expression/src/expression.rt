@@ -56,7 +56,7 @@ fn by_kind(kind: u32, value: u8, pos: u16) -> Exp
 }
 
 impl Exp {
-    // The expression of a number; every number has one, so that it is no TryFrom.
+    // The expression of a number; every number has one. No TryFrom, since none fails, and no From, since many numbers have the same one.
     pub fn from_number(number: u32) -> Exp
         ensures { result ≡ exp_of number }
     {

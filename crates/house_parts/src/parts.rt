@@ -60,7 +60,8 @@ fn is_add3(set: IntervalSet, k: SusKind) -> bool
     set.contains(MAJOR_THIRD) && (k.is_sus() || set.contains(DIMINISHED_SEVENTH))
 }
 
-// Is the i-th part named? The last, the bass, is not asked for here.
+// Is the i-th part named? The last, the bass, is not asked for here. A match on the place, since `condition_at`
+// asks by place; a list of closures would have as many arms.
 pub fn is_named(set: IntervalSet, k: SusKind, i: usize) -> bool
     requires { i < 23 }
     ensures { (b : OptionalNote) → result ≡ condition_at i (parts (λ j. 0) b (members set) k) }

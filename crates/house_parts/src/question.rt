@@ -15,7 +15,7 @@ use intervals::{
     MINOR_THIRD, NINTH, OCTAVE, PERFECT_FIFTH, SHARP_ELEVENTH, THIRTEENTH, UNISON,
 };
 
-// The i-th clause.
+// The i-th clause, by its place in `clauses`; a table of closures would be as many arms.
 fn clause_at(set: IntervalSet, k: SusKind, i: usize) -> bool
     requires { i < 15 }
     ensures { result ≡ get_or (clauses (members set) k) i true }

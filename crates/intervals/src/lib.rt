@@ -5,7 +5,8 @@ ghost use Rattle.std.specs.Prelude.{◌↔◌, ◌≡◌, true, [], ◌<◌, ◌
 ghost use Rattle.intervals.specs.Interval.{semitones, empty, insert, remove, replace, remove_then_add};
 ghost use Rattle.intervals.specs.Stored.{members, within, listed, list_of};
 
-// Numbers and no enum: a record may be handed over with any numbers in its display list, and is then refused by its text.
+// Numbers and no enum: `writer::write` is handed any record, whose display list may have numbers that are no interval, and refuses it then.
+// So a function below that asks for an interval says `interval < 23`, and not a type of its argument.
 pub const UNISON: u8 = 0;
 
 pub const MINOR_SECOND: u8 = 1;

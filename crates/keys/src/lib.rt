@@ -9,7 +9,8 @@ ghost use Rattle.keys.specs.Stored.{members, places};
 pub mod bytes;
 pub mod wanted;
 
-// Which of the 128 keys are members: the binary digits of two numbers, the lowest first.
+// Which of the 128 keys are members: the binary digits of two numbers, the lowest first. Both are public, and `members` and the 16 bytes
+// of C (`bytes`) are read from them.
 #[derive(Clone, Copy)]
 pub struct Keys {
     pub low: u64,

@@ -19,7 +19,8 @@ use token::{
 use utf8::Found;
 
 // A word of `from_string`: its letters, filled up to ten bytes; how many they are; the number of its type; and the place of the next one to
-// try: as long and with the same first letter, or, where there is none, shorter; 55 for none.
+// try: as long and with the same first letter, or, where there is none, shorter; 55 for none. Walked by place, so that only the words with
+// the text's first letter are tried (docs/DECISIONS.md); filled up, so that the table is one piece of memory.
 #[derive(Clone, Copy)]
 pub struct Row(pub [u8; 10], pub u8, pub u8, pub u8);
 

@@ -15,7 +15,8 @@ const MUCH: usize = 32768;
 
 // Where reading stands: the bytes of the block from `at` to `end` are not taken yet, and the first `len` bytes of the line's buffer are
 // those of the line so far, all of them once it is ready; then `lines` is its number, from 1. A proved loop has to end, so calls are
-// counted down from a number that no run uses up; `left` may follow, none at the end of the input.
+// counted down from a number that no run uses up; `left` may follow, none at the end of the input. `ready` and `len` and no Option of the
+// line: `Next`, `Took` and `Read` speak of them; `Lines::ready` gives an Option.
 #[derive(Clone, Copy)]
 pub struct Input {
     pub at: usize,

@@ -27,7 +27,7 @@ const NONE: u8 = 255;
 
 const FLAT: u8 = 255;
 
-// -1, 0 or 1 as a byte: the bytes that `modifier` reads, in a table like its own.
+// -1, 0 or 1 as a byte, as C has it (`alteration_byte`): the bytes that `modifier` reads, in a table like its own.
 fn alteration(m: RootModifier) -> u8
     ensures { result ≡ alteration_byte m }
 {

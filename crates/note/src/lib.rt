@@ -52,7 +52,8 @@ impl From<NoteLiteral> for u8 {
 }
 
 impl NoteLiteral {
-    // The letter of a number from 0 to 6; C for any other, so that it is no TryFrom.
+    // The letter of a number from 0 to 6; C for any other. No TryFrom, since none fails, and no From, since many numbers have
+    // the same letter.
     pub fn from_number(number: u8) -> NoteLiteral
         ensures { result ≡ letter_of number }
     {
@@ -115,7 +116,7 @@ impl From<Note> for u8 {
 }
 
 impl Note {
-    // The note of a number; each number from 21 on has one too, so that it is no TryFrom.
+    // The note of a number; each number from 21 on has one too. No TryFrom and no From, as for the letter.
     pub fn from_number(number: u8) -> Note
         ensures { result ≡ note_of number }
     {

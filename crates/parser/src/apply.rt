@@ -10,7 +10,7 @@ use expression::expression::Exp;
 use expression::parser_error::{ParserError, store};
 use step::effect::{Effect, Gains};
 
-// Writes the error behind the first n, if there is one, and answers how many there are.
+// Writes the error behind the first n, if there is one, and answers how many there are: counts by value, for the reason given at `State`.
 pub(crate) fn push_error(errs: &mut [u16], n: usize, e: Option<ParserError>) -> usize
     requires { 4 * n + 4 ≤ length errs.old }
     ensures { Wrote n result (error_of itself e) errs.old errs.new }

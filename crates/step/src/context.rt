@@ -10,6 +10,7 @@ pub enum GroupKind {
     Add,
 }
 
+// A group that a bracket holds, with its kind and whether a comma has made it active.
 #[derive(Clone, Copy)]
 pub struct GroupContext {
     pub kind: GroupKind,

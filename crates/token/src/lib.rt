@@ -33,8 +33,8 @@ pub enum TokenType {
     Eof,
 }
 
-// A token of a text: the number of its type, its position and its length. A number and no TokenType: the definitions of the lexer and of
-// the folding, and what is proved of raised numerals, speak of numbers.
+// A token of a text: the number of its type, its position and its length. A number and no TokenType: `lex`, `fold7` and the theorem
+// `RaisedTokens` speak of numbers, and `type_of` has the type of each.
 #[derive(Clone, Copy, PartialEq, Eq)]
 pub struct Token {
     pub kind: u8,
@@ -118,7 +118,8 @@ fn plain_type(number: u8) -> TokenType
 }
 
 impl TokenType {
-    // The type that a number of the arrays stands for.
+    // The type that a token's number stands for; Illegal where there is none. No TryFrom, since none fails, and no From, since many numbers
+    // have the same type.
     pub fn from_number(number: u8) -> TokenType
         ensures { result ≡ type_of number }
     {

@@ -53,7 +53,7 @@ fn first_wrong(exps: &[Exp]) -> Option<ParserError>
     exps.iter().find_map(|e| wrong_of(*e))
 }
 
-// The `priority` of an expression that may stand but once; 15 of Extension, Add and Omit.
+// The `priority` of an expression that may stand but once; 15 of Extension, Add and Omit, a number as `priority_of` has it.
 fn priority(e: Exp) -> u8
     ensures { result ≡ priority_of e }
 {
