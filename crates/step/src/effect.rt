@@ -25,6 +25,7 @@ pub struct Effect {
 }
 
 // Where the token stands and the state before it; `six` is whether the last expression is the extension 6.
+// Its bounds stand in contracts and not in ghost fields: the definitions (`here_of`, `here_in`) build a Here of any numbers.
 #[derive(Clone, Copy)]
 pub struct Here {
     pub pos: u16,
