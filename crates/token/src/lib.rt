@@ -35,7 +35,7 @@ pub enum TokenType {
 
 // A token of a text: the number of its type, its position and its length. A number and no TokenType: `lex`, `fold7` and the theorem
 // `RaisedTokens` speak of numbers, and `type_of` has the type of each.
-#[derive(Clone, Copy, PartialEq, Eq)]
+#[derive(Clone, Copy, PartialEq, Eq, Default)]
 pub struct Token {
     pub kind: u8,
     pub pos: u16,
