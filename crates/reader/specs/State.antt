@@ -18,7 +18,7 @@ pub record ReadGave (o : ReadOutcome) (r : Reading) (es es' : List ℕ) : Type 0
 abbrev pub Read : (text es es' : List ℕ) → Reading → Type 0
 Read text es es' r = ReadGave (read_of (length es) text) r es es'
 
--- bookkeeping of a private contract: the first e tokens are those of the text, folded
+-- the first e tokens are those of the text, folded, and the parser takes them
 pub record Tokenized (text : List ℕ) (e : ℕ) (ts : List Token) : Type 0 where
   pub few : e ≤ 257
   pub room : Room e ts

@@ -54,8 +54,8 @@ fn parse(tokens: &[Token], errs: &mut [u16]) -> Result<Chord, Refusal>
     evaluate(ast.root, &exps[..ast.exps], errs)
 }
 
-// Writes the tokens of a text, folded; their number is returned.
-fn tokenize(text: &[u8], tokens: &mut [Token]) -> usize
+// Writes the tokens of a text to the beginning of a lent array, folded; their number is returned.
+pub fn tokenize(text: &[u8], tokens: &mut [Token]) -> usize
     requires { (length text.now ≤ 256) × Room (length text.now + 1) tokens.old }
     ensures { Tokenized text.now result tokens.new }
 {
@@ -75,12 +75,7 @@ fn read_text(text: &[u8], errs: &mut [u16]) -> Result<Chord, Refusal>
     requires { (length text.now ≤ 256) × (1028 ≤ length errs.old) }
     ensures { ReadGave (parsed (tokens_in text.now)) (reading_of result) errs.old errs.new }
 {
-    let none = Token {
-        kind: 0,
-        pos: 0,
-        len: 0,
-    };
-    let mut tokens = [none; 257];
+    let mut tokens = [Token::default(); 257];
     let n = tokenize(text, &mut tokens);
     parse(&tokens[..n], errs)
 }
