@@ -1,11 +1,15 @@
 // What the listings print: numbers, each right-justified in four columns, one behind another.
 #![tactic(auto)]
 
+ghost use Rattle.std.specs.Prelude.{◌≡◌, OnOk};
 ghost use Rattle.output.specs.Output.{PutNumber};
 ghost use Rattle.columns.specs.Columns.{PutAll, PutAlteration, PutErrors, PutNote, PutNoteOrNone};
 
+use lines::Lines;
 use note::{Note, RootModifier};
 use output::Output;
+use std::io;
+use std::io::{Read, Write};
 
 // Appends a number.
 pub fn put(out: &mut Output, n: u64)
@@ -60,4 +64,31 @@ fn put_all(out: &mut Output, numbers: &[u16])
     for number in numbers {
         put(out, *number as u64);
     }
+}
+
+// Appends a line: its number, what `put_answer` appends, and the newline.
+fn put_line<F: Fn(&mut Output, &[u8])>(out: &mut Output, number: u64, text: &[u8], put_answer: &F)
+    requires { F.IsAlwaysCallable put_answer.now }
+{
+    put(out, number);
+    put_answer(out, text);
+    out.put(b'\n');
+}
+
+// Answers every line of a reader in a line of its own: its number, from 1, and behind it what `put_answer` appends.
+pub fn answer_lines<R: Read, W: Write, F: Fn(&mut Output, &[u8])>(
+    lines: &mut Lines,
+    from: &mut R,
+    to: &mut W,
+    out: &mut Output,
+    put_answer: F,
+) -> io::Result<()>
+    requires { F.IsAlwaysCallable put_answer }
+    ensures all { OnOk result (lines.new.input.left ≡ 0) }
+    ensures none_wait { OnOk result (out.new.used ≡ 0) }
+{
+    lines.answer_all(from, to, out, |_, out, number, text| {
+        put_line(out, number, text, &put_answer);
+        Ok(())
+    })
 }

@@ -3,9 +3,7 @@
 // length. Every number is right-justified in four columns.
 #![tactic(auto)]
 
-ghost use Rattle.std.specs.Prelude.{◌≤◌, length};
-
-use columns::put;
+use columns::{answer_lines, put};
 use lines::Lines;
 use output::Output;
 use std::io;
@@ -32,15 +30,6 @@ fn put_tokens(out: &mut Output, tokens: &[Token]) {
     }
 }
 
-// The tokens of a text are written to the beginning of a lent array, folded; their number is returned.
-fn tokenize(text: &[u8], tokens: &mut [Token; 257]) -> usize
-    requires { length text.now ≤ 256 }
-    ensures { result ≤ 257 }
-{
-    let n = lexer::scan_tokens(text, tokens);
-    folding::pre_process(&mut tokens[..n])
-}
-
 // Appends the number of a text's answer, and the tokens of a text that has any.
 fn put_answer(out: &mut Output, text: &[u8]) {
     if 256 < text.len() {
@@ -49,13 +38,8 @@ fn put_answer(out: &mut Output, text: &[u8]) {
     if !utf8::well_formed(text) {
         return put(out, 3);
     }
-    let none = Token {
-        kind: 0,
-        pos: 0,
-        len: 0,
-    };
-    let mut tokens = [none; 257];
-    let n = tokenize(text, &mut tokens);
+    let mut tokens = [Token::default(); 257];
+    let n = reader::tokenize(text, &mut tokens);
     put(out, 0);
     put_tokens(out, &tokens[..n]);
 }
@@ -64,15 +48,11 @@ fn main(rt: HostRuntime) -> io::Result<()> {
     let mut waiting = [0u8; 65536];
     let mut line = [0u8; 257];
     let mut block = [0u8; 65536];
-    Lines::new(&mut block, &mut line).answer_all(
+    answer_lines(
+        &mut Lines::new(&mut block, &mut line),
         &mut rt.stdin(),
         &mut rt.stdout(),
         &mut Output::new(&mut waiting),
-        |_, out, number, text| {
-            put(out, number);
-            put_answer(out, text);
-            out.put(b'\n');
-            Ok(())
-        },
+        put_answer,
     )
 }
