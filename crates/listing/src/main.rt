@@ -5,7 +5,7 @@
 #![tactic(auto)]
 
 use chord::Chord;
-use columns::{put, put_errors, put_note_or_none};
+use columns::{answer_lines, put, put_errors, put_note_or_none};
 use intervals::{IntervalList, IntervalSet};
 use lines::Lines;
 use output::Output;
@@ -74,15 +74,11 @@ fn main(rt: HostRuntime) -> io::Result<()> {
     let mut waiting = [0u8; 65536];
     let mut line = [0u8; 257];
     let mut block = [0u8; 65536];
-    Lines::new(&mut block, &mut line).answer_all(
+    answer_lines(
+        &mut Lines::new(&mut block, &mut line),
         &mut rt.stdin(),
         &mut rt.stdout(),
         &mut Output::new(&mut waiting),
-        |_, out, number, text| {
-            put(out, number);
-            put_answer(out, text);
-            out.put(b'\n');
-            Ok(())
-        },
+        put_answer,
     )
 }

@@ -4,10 +4,9 @@
 // right-justified in four columns.
 #![tactic(auto)]
 
-ghost use Rattle.std.specs.Prelude.{◌≤◌, length, take};
-ghost use Rattle.parser.specs.State.{Tokens};
+ghost use Rattle.std.specs.Prelude.{◌≤◌, length};
 
-use columns::{put, put_errors, put_note, put_note_or_none};
+use columns::{answer_lines, put, put_errors, put_note, put_note_or_none};
 use expression::expression::Exp;
 use lines::Lines;
 use output::Output;
@@ -34,28 +33,14 @@ fn put_exps(out: &mut Output, exps: &[Exp]) {
     }
 }
 
-// The tokens of a text are written to the beginning of a lent array, folded; their number is returned.
-fn tokenize(text: &[u8], tokens: &mut [Token]) -> usize
-    requires { (length text.now ≤ 256) × (257 ≤ length tokens.old) }
-    ensures { (result ≤ length tokens.new) × Tokens (take result tokens.new) }
-{
-    let n = lexer::scan_tokens(text, tokens);
-    folding::pre_process(&mut tokens[..n])
-}
-
 // Appends what the parser finds in a text of at most 256 bytes.
 fn put_parse(out: &mut Output, text: &[u8])
     requires { length text.now ≤ 256 }
 {
-    let none = Token {
-        kind: 0,
-        pos: 0,
-        len: 0,
-    };
-    let mut tokens = [none; 257];
+    let mut tokens = [Token::default(); 257];
     let mut errs = [0u16; 1028];
     let mut exps = [Exp::Power; 257];
-    let n = tokenize(text, &mut tokens);
+    let n = reader::tokenize(text, &mut tokens);
     let ast = parser::parser::parse(&tokens[..n], &mut errs, &mut exps);
     put_note_or_none(out, ast.root);
     put_exps(out, &exps[..ast.exps]);
@@ -78,15 +63,11 @@ fn main(rt: HostRuntime) -> io::Result<()> {
     let mut waiting = [0u8; 65536];
     let mut line = [0u8; 257];
     let mut block = [0u8; 65536];
-    Lines::new(&mut block, &mut line).answer_all(
+    answer_lines(
+        &mut Lines::new(&mut block, &mut line),
         &mut rt.stdin(),
         &mut rt.stdout(),
         &mut Output::new(&mut waiting),
-        |_, out, number, text| {
-            put(out, number);
-            put_answer(out, text);
-            out.put(b'\n');
-            Ok(())
-        },
+        put_answer,
     )
 }
