@@ -4,7 +4,7 @@
 ghost use Rattle.std.specs.Prelude.{◌≡◌, ◌≤◌, length};
 ghost use Rattle.bars.specs.Bars.{longest_line};
 ghost use Rattle.bars.specs.State.{Part};
-ghost use Rattle.endings.specs.Endings.{nowhere, spot_of};
+ghost use Rattle.endings.specs.Endings.{nowhere, number_of, spot_of};
 ghost use Rattle.endings.specs.State.{BarAt, Fits, NumberedBy, line_of, spot_from, StartIn};
 
 use bars::{LONGEST_LINE, STROKE};
@@ -16,6 +16,19 @@ pub enum Answer {
     NoBar,
     Body,
     Ending,
+}
+
+// The paper's number.
+impl From<Answer> for u8 {
+    ghost from_gives = { λ answer n. n ≡ number_of answer };
+
+    fn from(answer: Answer) -> u8 {
+        match answer {
+            Answer::TooLong => 8,
+            Answer::NoBar => 9,
+            Answer::Body | Answer::Ending => 0,
+        }
+    }
 }
 
 // The answer to a bar number, and where the bar lies in the line that has it, from its first byte to the one behind its last. Without a

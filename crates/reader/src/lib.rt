@@ -1,11 +1,11 @@
 // Reading a card: the five questions, in the paper's order, and blank texts before the last two.
 #![tactic(auto)]
 
-ghost use Rattle.std.specs.Prelude.{◌≡◌, ◌+◌, ◌≤◌, length};
+ghost use Rattle.std.specs.Prelude.{Some, ◌≡◌, ◌+◌, ◌≤◌, length};
 ghost use Rattle.evaluator.specs.State.{Sounds};
 ghost use Rattle.parser.specs.State.{Tokens};
 ghost use Rattle.token.specs.Token.{Room};
-ghost use Rattle.reader.specs.Reader.{is_blank, parsed, reading_of, tokens_in, validated};
+ghost use Rattle.reader.specs.Reader.{is_blank, number_of, parsed, reading_of, tokens_in, validated};
 ghost use Rattle.reader.specs.State.{ReadGave, Read, Tokenized};
 
 use chord::Chord;
@@ -21,6 +21,21 @@ pub enum Refusal {
     NotUtf8,
     Parse(u16),
     Validation(u16),
+}
+
+// The paper's number.
+impl From<Refusal> for u8 {
+    ghost from_gives = { λ refusal n. n ≡ number_of (Some refusal) };
+
+    fn from(refusal: Refusal) -> u8 {
+        match refusal {
+            Refusal::ShortList => 1,
+            Refusal::LongText => 2,
+            Refusal::NotUtf8 => 3,
+            Refusal::Parse(_) => 4,
+            Refusal::Validation(_) => 5,
+        }
+    }
 }
 
 // The chord of the expressions, if they and its set are valid.
