@@ -7,7 +7,6 @@ ghost use Rattle.chord.specs.Chord.{four_of};
 ghost use Rattle.intervals.specs.Stored.{members, listed};
 ghost use Rattle.writer.specs.State.{Grew, WriteGave};
 ghost use Rattle.midi.specs.State.{NextGave};
-ghost use Rattle.endings.specs.Endings.{number_of};
 ghost use Rattle.keys.specs.Stored.{keys_bytes};
 ghost use Rattle.keys.specs.Stored as stored;
 ghost use Rattle.nophtris.specs.Boundary.{alteration_byte, are_bits, chord_bytes, four_in, inside, is_alteration, is_note, line_number, list_bytes, modifier_in, next_from, note_bytes, note_in, set_bytes, values_in, write_in};
@@ -88,16 +87,11 @@ pub fn nophtris_read(text: &[u8], errors: &mut [u16], count: &mut u16, chord: &m
             encode(read, chord);
             0
         }
-        Err(Refusal::ShortList) => 1,
-        Err(Refusal::LongText) => 2,
-        Err(Refusal::NotUtf8) => 3,
-        Err(Refusal::Parse(n)) => {
-            *count = n;
-            4
-        }
-        Err(Refusal::Validation(n)) => {
-            *count = n;
-            5
+        Err(unread) => {
+            if let Refusal::Parse(n) | Refusal::Validation(n) = unread {
+                *count = n;
+            }
+            u8::from(unread)
         }
     }
 }
@@ -130,17 +124,6 @@ pub fn nophtris_step(
     }
 }
 
-// The paper's number of the answer to a bar number.
-fn number_of(answer: endings::Answer) -> u8
-    ensures { result ≡ number_of answer }
-{
-    match answer {
-        endings::Answer::TooLong => 8,
-        endings::Answer::NoBar => 9,
-        endings::Answer::Body | endings::Answer::Ending => 0,
-    }
-}
-
 // The line that has the bar: 0 the body, 1 the ending.
 fn line_number(answer: endings::Answer) -> u8
     ensures { result ≡ line_number answer }
@@ -162,7 +145,7 @@ pub fn nophtris_bar<'a>(
         start.new size.old size.new result }
 {
     let spot = endings::spot_of(body, ending, number);
-    let said = number_of(spot.answer);
+    let said = u8::from(spot.answer);
     if said != 0 {
         return said;
     }
