@@ -1,7 +1,9 @@
 // The 23 intervals as numbers, their semitones, and sets of intervals.
 #![tactic(auto)]
 
-ghost use Rattle.std.specs.Prelude.{◌↔◌, ◌≡◌, true, [], ◌<◌, ◌≤◌, length};
+ghost use Rattle.std.specs.Prelude.{◌↔◌, ◌≡◌, nat_eq, true, [], ◌<◌, ◌≤◌, length};
+ghost use Rattle.std.specs.Cmp.{on_equiv, on_per, partial_equiv_from_equiv};
+ghost use Rattle.std.specs.Cmp.Lexicographic.{nat_list_eq_equiv, pointwise};
 ghost use Rattle.intervals.specs.Interval.{semitones, empty, insert, remove, replace, remove_then_add};
 ghost use Rattle.intervals.specs.Stored.{members, within, listed, list_of};
 
@@ -175,6 +177,21 @@ impl IntervalList {
     pub fn same(self, other: IntervalList) -> bool
         ensures { (result ≡ true) ↔ (listed self ≡ listed other) }
     {
+        self == other
+    }
+}
+
+// Equal are lists of the same numbers in the same order. What lies behind the numbers is none of it, so that no derive says this.
+impl PartialEq for IntervalList {
+    ghost eq = { λ l m. pointwise nat_eq (listed l) (listed m) };
+
+    ghost laws = { on_per listed (partial_equiv_from_equiv nat_list_eq_equiv) };
+
+    fn eq(&self, other: &IntervalList) -> bool {
         self.as_slice() == other.as_slice()
     }
+}
+
+impl Eq for IntervalList {
+    ghost laws = { on_equiv listed nat_list_eq_equiv };
 }
