@@ -77,7 +77,7 @@ pub fn place_at(line: &[u8], at: usize) -> Place
     }
 }
 
-// A part of a line.
+// A part of a line, from one place of the caller's to another.
 pub fn part<'a>(line: &'a [u8], from: usize, to: usize) -> &'a [u8]
     requires { (from ≤ to) × (to ≤ length line.now) }
     ensures { Part line.entry from to result }

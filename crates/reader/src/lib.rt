@@ -85,7 +85,7 @@ fn is_blank(text: &[u8]) -> bool
     text.iter().all(|byte| *byte == b' ')
 }
 
-// The chord of a text of at most 256 bytes that is UTF-8 and not blank.
+// The chord of a text of at most 256 bytes that is UTF-8 and not blank. The bounds stand in contracts, since what is called takes slices.
 fn read_text(text: &[u8], errs: &mut [u16]) -> Result<Chord, Refusal>
     requires { (length text.now ≤ 256) × (1028 ≤ length errs.old) }
     ensures { ReadGave (parsed (tokens_in text.now)) (reading_of result) errs.old errs.new }

@@ -23,7 +23,7 @@ impl fmt::Display for Spelling {
     }
 }
 
-// A note, as `C#`.
+// A note, as `C#`; the writer's letters are bytes of a spelling, and private.
 #[derive(Clone, Copy)]
 struct NoteName(Note);
 

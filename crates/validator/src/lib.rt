@@ -19,6 +19,7 @@ mod extensions;
 mod semitones;
 
 // The errors of the expressions and of the set that they make, written from the beginning of the list on; their number is returned.
+// The bounds stand in contracts and in no type: the caller's expressions and list are slices.
 pub fn validate(exps: &[Exp], set: IntervalSet, errs: &mut [u16]) -> usize
     requires { (length exps.now ≤ 257) × (1028 ≤ length errs.old) }
     ensures { Wrote 0 result (validation_of exps.now (members set)) errs.old errs.new
