@@ -76,6 +76,7 @@ fn put_line<F: Fn(&mut Output, &[u8])>(out: &mut Output, number: u64, text: &[u8
 }
 
 // Answers every line of a reader in a line of its own: its number, from 1, and behind it what `put_answer` appends.
+// The arrays are the caller's, so that it can be said what is left in them: each `main` has its own.
 pub fn answer_lines<R: Read, W: Write, F: Fn(&mut Output, &[u8])>(
     lines: &mut Lines,
     from: &mut R,
