@@ -8,14 +8,31 @@ use reader::Refusal;
 // The length of a buffer that has room for each spelling.
 const LONGEST_SPELLING: usize = 112;
 
-// The number of why a text was refused.
-fn number_of(refusal: Refusal) -> u8 {
-    match refusal {
-        Refusal::ShortList => 1,
-        Refusal::LongText => 2,
-        Refusal::NotUtf8 => 3,
-        Refusal::Parse(_) => 4,
-        Refusal::Validation(_) => 5,
+// Why a text has no spelling: it was refused, or its record was.
+#[derive(Clone, Copy, PartialEq, Eq)]
+enum Unspelled {
+    Read(Refusal),
+    Written(writer::Refusal),
+}
+
+impl Unspelled {
+    fn number(self) -> u8 {
+        match self {
+            Unspelled::Read(refusal) => u8::from(refusal),
+            Unspelled::Written(refusal) => u8::from(refusal),
+        }
+    }
+}
+
+impl From<Refusal> for Unspelled {
+    fn from(refusal: Refusal) -> Unspelled {
+        Unspelled::Read(refusal)
+    }
+}
+
+impl From<writer::Refusal> for Unspelled {
+    fn from(refusal: writer::Refusal) -> Unspelled {
+        Unspelled::Written(refusal)
     }
 }
 
@@ -85,7 +102,7 @@ fn put_errors(out: &mut Output, errs: &[u16], n: u16) {
 
 // Appends the number of why a text was refused, and the errors, if there are any.
 fn put_refusal(out: &mut Output, refusal: Refusal, errs: &[u16]) {
-    put_answer(out, number_of(refusal));
+    put_answer(out, u8::from(refusal));
     if let Refusal::Parse(n) | Refusal::Validation(n) = refusal {
         put_errors(out, errs, n);
     }
@@ -99,10 +116,9 @@ pub(crate) fn put_reading(out: &mut Output, read: Result<Chord, Refusal>, errs: 
     }
 }
 
-// Writes the spelling of what was read and gives its length, or else the number.
-fn spell(read: Result<Chord, Refusal>, buffer: &mut [u8]) -> Result<usize, u8> {
-    let chord = read.map_err(number_of)?;
-    Ok(writer::write(chord, buffer)?)
+// Writes the spelling of what was read and gives its length.
+fn spell(read: Result<Chord, Refusal>, buffer: &mut [u8]) -> Result<usize, Unspelled> {
+    Ok(writer::write(read?, buffer)?)
 }
 
 // Appends the spelling of what was read, or the number.
@@ -110,7 +126,7 @@ pub(crate) fn put_spelling(out: &mut Output, read: Result<Chord, Refusal>) {
     let mut buffer = [0u8; LONGEST_SPELLING];
     match spell(read, &mut buffer) {
         Ok(n) => out.put_first(&buffer, n),
-        Err(number) => put_answer(out, number),
+        Err(unspelled) => put_answer(out, unspelled.number()),
     }
 }
 

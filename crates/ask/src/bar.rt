@@ -19,8 +19,7 @@ fn put_place(out: &mut Output, line: u64, spot: Spot)
 pub(crate) fn put_numbered(out: &mut Output, body: &[u8], ending: &[u8], number: usize) {
     let spot = endings::spot_of(body, ending, number);
     match spot.answer {
-        Answer::TooLong => put_answer(out, 8),
-        Answer::NoBar => put_answer(out, 9),
+        Answer::TooLong | Answer::NoBar => put_answer(out, u8::from(spot.answer)),
         Answer::Body => put_place(out, 0, spot),
         Answer::Ending => put_place(out, 1, spot),
     }

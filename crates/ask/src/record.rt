@@ -23,38 +23,42 @@ fn with_shown(mut list: IntervalList, n: u64) -> Option<IntervalList> {
     Some(list)
 }
 
+// Two numbers that are neither those of a note nor -1 and 0.
+#[derive(Clone, Copy, PartialEq, Eq)]
+struct Meaningless;
+
 // The modifier of an alteration, where None is -1.
-fn modifier(alteration: Option<u64>) -> Option<RootModifier> {
+fn modifier(alteration: Option<u64>) -> Result<RootModifier, Meaningless> {
     match alteration {
-        None => Some(RootModifier::Flat),
-        Some(0) => Some(RootModifier::Natural),
-        Some(1) => Some(RootModifier::Sharp),
-        Some(_) => None,
+        None => Ok(RootModifier::Flat),
+        Some(0) => Ok(RootModifier::Natural),
+        Some(1) => Ok(RootModifier::Sharp),
+        Some(_) => Err(Meaningless),
     }
 }
 
-// The note of a letter and an alteration, where None is -1; -1 and 0 say that there is no note. Other numbers say nothing.
-fn note(letter: Option<u64>, alteration: Option<u64>) -> Option<Option<Note>> {
+// The note of a letter and an alteration, where None is -1; -1 and 0 say that there is no note.
+fn note(letter: Option<u64>, alteration: Option<u64>) -> Result<Option<Note>, Meaningless> {
     match (letter, modifier(alteration)?) {
-        (None, RootModifier::Natural) => Some(None),
-        (Some(n), modifier) if n < 7 => Some(Some(Note {
+        (None, RootModifier::Natural) => Ok(None),
+        (Some(n), modifier) if n < 7 => Ok(Some(Note {
             literal: NoteLiteral::from_number(n as u8),
             modifier,
         })),
-        _ => None,
+        _ => Err(Meaningless),
     }
 }
 
 // The record of these parts, if all are there.
 fn chord_of(
-    root: Option<Option<Note>>,
-    bass: Option<Option<Note>>,
+    root: Result<Option<Note>, Meaningless>,
+    bass: Result<Option<Note>, Meaningless>,
     normalized: Option<IntervalSet>,
     display: Option<IntervalList>,
 ) -> Option<Chord> {
     Some(Chord {
-        root: root?,
-        bass: bass?,
+        root: root.ok()?,
+        bass: bass.ok()?,
         normalized: normalized?,
         display: display?,
     })
@@ -67,8 +71,8 @@ fn chord_in(text: &[u8]) -> Option<Chord> {
 }
 
 impl<'a> Words<'a> {
-    // Takes the two numbers of a note; None where they say nothing.
-    fn note(&mut self) -> Result<Option<Option<Note>>, Fault> {
+    // Takes the two numbers of a note.
+    fn note(&mut self) -> Result<Result<Option<Note>, Meaningless>, Fault> {
         let letter = self.signed()?;
         let alteration = self.signed()?;
         Ok(note(letter, alteration))

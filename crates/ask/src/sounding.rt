@@ -5,14 +5,14 @@ use keys::Keys;
 use midi::Refusal;
 use output::Output;
 
-// The hexadecimal digits, in capitals, which `io::hex` does not write.
-const DIGITS: [u8; 16] = *b"0123456789ABCDEF";
-
-// Appends a byte of a message behind a space.
+// Appends a byte of a message behind a space: two digits, in capitals.
 fn put_pair(out: &mut Output, byte: u8) {
+    let mut digits = [0u8; 16];
+    let n = io::hex(u64::from(byte), 2, &mut digits);
     out.put(b' ');
-    out.put(DIGITS[usize::from(byte / 16)]);
-    out.put(DIGITS[usize::from(byte % 16)]);
+    for digit in &digits[..n] {
+        out.put(digit.to_ascii_uppercase());
+    }
 }
 
 // Appends 0, the length of the messages, and the messages, which the bytes begin with.

@@ -48,6 +48,14 @@ fn put_first_errors(out: &mut Output, errs: &[u16], n: u16) {
     }
 }
 
+// Appends the number of why a text is not accepted, and the errors, if there are any.
+fn put_refusal(out: &mut Output, refusal: Refusal, errs: &[u16]) {
+    put(out, u64::from(u8::from(refusal)));
+    if let Refusal::Parse(n) | Refusal::Validation(n) = refusal {
+        put_first_errors(out, errs, n);
+    }
+}
+
 // Appends the answer to a text.
 fn put_answer(out: &mut Output, text: &[u8]) {
     let mut errs = [0u16; 1028];
@@ -56,17 +64,7 @@ fn put_answer(out: &mut Output, text: &[u8]) {
             put(out, 0);
             put_chord(out, chord);
         }
-        Err(Refusal::ShortList) => put(out, 1),
-        Err(Refusal::LongText) => put(out, 2),
-        Err(Refusal::NotUtf8) => put(out, 3),
-        Err(Refusal::Parse(n)) => {
-            put(out, 4);
-            put_first_errors(out, &errs, n);
-        }
-        Err(Refusal::Validation(n)) => {
-            put(out, 5);
-            put_first_errors(out, &errs, n);
-        }
+        Err(refusal) => put_refusal(out, refusal, &errs),
     }
 }
 
