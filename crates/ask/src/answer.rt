@@ -66,7 +66,7 @@ fn put_alteration(out: &mut Output, alteration: i8) {
     });
 }
 
-// Appends the count of the members of a set, and the members.
+// Appends the count of the members of a set, and the members. As in the listing, but each number behind one space and in no column.
 fn put_set(out: &mut Output, set: IntervalSet) {
     put_next(out, (0..23).filter(|i| set.contains(*i)).count() as u64);
     for i in (0..23).filter(|i| set.contains(*i)) {
