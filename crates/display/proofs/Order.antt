@@ -3,12 +3,12 @@
 use mathlib.Core.Bool.{Bool, true, false, ◌&&◌, cond}
 use mathlib.Core.List.{List, [], ◌∷◌, ◌++◌, append_assoc}
 use mathlib.Core.Path.{◌≡◌, refl, sym, ap, ◌∙◌}
-use Prim.Native.Nat.{ℕ, zero, suc, ◌+◌, ◌-◌, ◌<◌}
+use Prim.Native.Nat.{ℕ, zero, suc, ◌<◌}
 use native.Mathlib.Nat.{not-suc-le-zero, le_of_suc-le-suc}
 use native.Mathlib.Omega.{arith}
 use lib.Dec.{T, eqb, eqb→eq, leb, ltb, ltb→lt}
-use lib.ListN.{length, drop, get_or, replicate, set}
-use lib.Seq.{drop-cons, drop-drop, drop-set-lt}
+use lib.ListN.{length, drop, get_or}
+use lib.Seq.{drop-cons}
 use mir.Facts.{and_yes}
 use borrow.Author.Tests.{ne_eqb}
 use Rattle.intervals.specs.Interval.{Set, semitones}
@@ -95,9 +95,3 @@ display_turn a a' s k i j h e p =
     ∙ one a (s (get_or (order k) j 0)) (shown k (get_or (order k) j 0)) (chosen s (shown k) (drop (suc j) (order k)))
     ∙ ap (λ (m : ℕ). a ++ cond (s m) (shown k m ∷ []) [] ++ chosen s (shown k) (drop (suc j) (order k))) (sym e)
     ∙ ap (λ (l : List ℕ). l ++ chosen s (shown k) (drop (suc j) (order k))) (sym p)
-
--- a store behind the numbers takes one of the zeros there
-pub zeros_behind : (v : List ℕ) (n y : ℕ) → n < 23 → drop n v ≡ replicate (23 - n) 0 → drop (n + 1) (set v n y) ≡ replicate (23 - (n + 1)) 0
-zeros_behind v n y h z =
-    let e : 23 - n ≡ suc (23 - (n + 1)) = omega arith in
-    drop-set-lt (n + 1) v n y (omega arith) ∙ sym (drop-drop 1 n v) ∙ ap (drop 1) (z ∙ ap (λ (m : ℕ). replicate m 0) e)

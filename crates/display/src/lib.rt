@@ -56,15 +56,11 @@ fn order_at(k: u8, j: u8) -> u8
 fn in_order(k: u8, s: IntervalSet) -> IntervalList
     ensures { (result ≡ list_of (display_of k (members s))) × (listed result ≡ display_of k (members s)) }
 {
-    let mut list = IntervalList {
-        numbers: [0; 23],
-        len: 0,
-    };
+    let mut list = IntervalList::new();
     for j in 0..23 {
         let i = order_at(k, j);
         if s.contains(i) {
-            list.numbers[list.len] = shown(k, i);
-            list.len += 1;
+            list.push(shown(k, i));
         }
     }
     list

@@ -2,16 +2,17 @@
 -- one place at a time from the top; a number of 32 digits is the one that its digits make.
 -- Assumes nothing.
 use mathlib.Core.Bool.{Bool, true, false, not, cond, ◌&&◌}
-use mathlib.Core.List.{List, ◌++◌}
+use mathlib.Core.List.{List, [], ◌∷◌, ◌++◌}
 use mathlib.Core.Path.{◌≡◌, refl, sym, ap, ◌∙◌, subst}
 use Prim.Native.Nat.{ℕ, zero, suc, ◌+◌, ◌-◌, ◌*◌, ◌%◌, ◌^◌, ◌<◌, ◌≤◌}
 use native.Mathlib.Nat.{mod-lt, one-mul, two-pow-succ, zero-mul}
 use native.Mathlib.Omega.{arith}
 use lib.Dec.{T, eqb, ltb}
-use lib.ListN.{drop, length, length-replicate, replicate, replicate-append-replicate, take, take-append-drop}
+use lib.ListN.{drop, length, length-set, set, length-replicate, replicate, replicate-append-replicate, take, take-append-drop}
 use lib.Pow.{high, low, pow_pos}
-use lib.Seq.{length-take-le, take-append-add, take-append_seam, take_at, take-take}
+use lib.Seq.{drop-append_seam, drop-drop, drop-set-lt, length-take-le, take-suc-set, take-append-add, take-append_seam, take_at, take-take}
 use borrow.Author.Tests.{le-ltb, lt-ltb, ltb-true, ltb-false}
+use Rattle.std.proofs.Common.{length-take}
 use Rattle.intervals.proofs.Bits.{bit_above, bit-low}
 use Rattle.intervals.proofs.Store.{member_at, same_number}
 use Rattle.intervals.specs.Stored.{bit, digits, list_of, listed, members, none_from, outside, set_of, within}
@@ -110,6 +111,51 @@ list-whole l h w z =
     ∙ take-append-drop n l.numbers
     in
     λ i. record { numbers = v i; len = e i }
+
+-- and the other way: behind the numbers of such a list are zeros
+zeros-back : (l : IntervalList) → l.len ≤ 23 → length l.numbers ≡ 23 → l ≡ list_of (listed l)
+    → drop l.len l.numbers ≡ replicate (23 - l.len) 0
+unfolding listed list_of
+zeros-back l h w e =
+    let n = l.len in
+    let d = take n l.numbers in
+    let f : length d ≡ n = length-take-le n l.numbers (omega arith) in
+    let k : 23 ≡ length d + (23 - n) = omega arith in
+    let v : l.numbers ≡ d ++ replicate (23 - n) 0 =
+    ap (λ (m : IntervalList). m.numbers) e
+    ∙ ap (λ (m : ℕ). take m (d ++ replicate 23 0)) k
+    ∙ take-append-add d (replicate 23 0) (23 - n)
+    ∙ ap (λ (q : List ℕ). d ++ q) (zeros (23 - n) (omega arith))
+    in
+    ap (drop n) v ∙ ap (λ (m : ℕ). drop m (d ++ replicate (23 - n) 0)) (sym f) ∙ drop-append_seam d (replicate (23 - n) 0)
+
+-- a store behind the numbers takes one of the zeros there
+zeros_behind : (v : List ℕ) (n y : ℕ) → n < 23 → drop n v ≡ replicate (23 - n) 0 → drop (n + 1) (set v n y) ≡ replicate (23 - (n + 1)) 0
+zeros_behind v n y h z =
+    let e : 23 - n ≡ suc (23 - (n + 1)) = omega arith in
+    drop-set-lt (n + 1) v n y (omega arith) ∙ sym (drop-drop 1 n v) ∙ ap (drop 1) (z ∙ ap (λ (m : ℕ). replicate m 0) e)
+
+-- fewer numbers than 23 leave room
+pub has_room : (l : IntervalList) → length l.numbers ≡ 23 → length (listed l) < 23 → l.len < 23
+unfolding listed
+has_room l w h = let e = length-take l.len l.numbers in omega (arith, w, h, e)
+
+-- one more number
+unfoldable pub added : IntervalList → ℕ → IntervalList
+added l y = record { numbers = set l.numbers l.len y; len = l.len + 1 }
+
+pub added_lists : (l : IntervalList) (y : ℕ) → l.len < 23 → length l.numbers ≡ 23 → listed (added l y) ≡ listed l ++ (y ∷ [])
+unfolding listed added
+added_lists l y h w =
+    let e : l.len + 1 ≡ suc l.len = omega arith in
+    rw e (take-suc-set l.numbers l.len y (omega arith))
+
+pub added_whole : (l : IntervalList) (y : ℕ) → l.len < 23 → length l.numbers ≡ 23 → l ≡ list_of (listed l)
+    → added l y ≡ list_of (listed (added l y))
+unfolding added
+added_whole l y h w e =
+    let z = zeros_behind l.numbers l.len y h (zeros-back l (omega arith) w e) in
+    sym (list-whole (added l y) (omega arith) (simp length-set w) z)
 
 -- none of the n numbers from k on
 module _ (s : Set) where

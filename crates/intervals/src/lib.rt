@@ -1,7 +1,7 @@
 // The 23 intervals as numbers, their semitones, and sets of intervals.
 #![tactic(auto)]
 
-ghost use Rattle.std.specs.Prelude.{◌↔◌, ◌≡◌, nat_eq, true, [], ◌<◌, ◌≤◌, length};
+ghost use Rattle.std.specs.Prelude.{◌↔◌, ◌≡◌, nat_eq, true, [], ◌∷◌, ◌++◌, ◌<◌, ◌≤◌, length};
 ghost use Rattle.std.specs.Cmp.{on_equiv, on_per, partial_equiv_from_equiv};
 ghost use Rattle.std.specs.Cmp.Lexicographic.{nat_list_eq_equiv, pointwise};
 ghost use Rattle.intervals.specs.Interval.{semitones, empty, insert, remove, replace, remove_then_add};
@@ -171,6 +171,16 @@ impl IntervalList {
         ensures { result.now ≡ listed self.now }
     {
         &self.numbers[..self.count()]
+    }
+
+    // Adds a number behind those of the list. Where zeros are behind the old numbers, zeros are behind the new.
+    pub fn push(&mut self, number: u8)
+        requires { length (listed self.old) < 23 }
+        ensures added { listed self.new ≡ listed self.old ++ number ∷ [] }
+        ensures whole { self.old ≡ list_of (listed self.old) → self.new ≡ list_of (listed self.new) }
+    {
+        self.numbers[self.len] = number;
+        self.len += 1;
     }
 
     // Have the two lists the same numbers in the same order?
