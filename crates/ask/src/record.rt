@@ -17,10 +17,13 @@ fn with_member(set: IntervalSet, n: u64) -> Option<IntervalSet> {
 
 // The list with one more number; none has more than 23, or one above 255.
 fn with_shown(mut list: IntervalList, n: u64) -> Option<IntervalList> {
-    let place = list.len;
-    *list.numbers.get_mut(place)? = u8::try_from(n).ok()?;
-    list.len = place + 1;
-    Some(list)
+    let number = u8::try_from(n).ok()?;
+    if list.as_slice().len() < 23 {
+        list.push(number);
+        Some(list)
+    } else {
+        None
+    }
 }
 
 // Two numbers that are neither those of a note nor -1 and 0.
