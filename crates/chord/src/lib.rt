@@ -29,7 +29,8 @@ impl Chord {
         }
     }
 
-    // Have the two records the same four? `==` compares two display lists by the numbers that they list.
+    // Have the two records the same four? `==` compares two display lists by the numbers that they list; this is
+    // the promise that callers cite.
     pub fn same(self, other: Chord) -> bool
         ensures { (result ≡ true) ↔ (four_of self ≡ four_of other) }
     {

@@ -57,7 +57,7 @@ fn apply_dim(s: IntervalSet) -> IntervalSet
         .remove_then_add(PERFECT_FIFTH, DIMINISHED_FIFTH)
 }
 
-// The form that an expression asks for.
+// The form that an expression asks for; no From, since many expressions ask for the same.
 pub(crate) fn form_of(e: Exp) -> BaseForm
     ensures { result ≡ form_of e }
 {

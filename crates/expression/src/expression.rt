@@ -24,7 +24,7 @@ pub enum Exp {
     SlashBass(Note),
 }
 
-// Kind, interval or note, and position in one number.
+// Kind, interval or note, and position in one number, as `exp_number` has them; `exp_of` goes back.
 fn pack(kind: u32, value: u8, pos: u16) -> u32
     requires { kind < 16 }
     ensures { (result ≡ packed kind value pos) × (exp_of result ≡ exp_by kind value pos) }

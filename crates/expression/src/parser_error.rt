@@ -54,7 +54,7 @@ impl From<ParserError> for [u16; 4] {
     }
 }
 
-// Writes an error as the n-th of the list, counted from 0.
+// Writes an error as the n-th of the list, counted from 0. `Errors::push` and the parser, which counts by value, both call it.
 pub fn store(errs: &mut [u16], n: usize, e: ParserError)
     requires { 4 * n + 4 ≤ length errs.old }
     ensures { errs.new ≡ take (4 * n) errs.old ++ numbers_of e ++ drop (4 * n + 4) errs.old }
@@ -63,7 +63,7 @@ pub fn store(errs: &mut [u16], n: usize, e: ParserError)
     errs[4 * n..4 * n + 4].copy_from_slice(&numbers);
 }
 
-// The errors that a lent list begins with.
+// The errors that a lent list begins with, four numbers each, as C has them.
 #[derive(Drop)]
 pub struct Errors<'a> {
     pub list: &'a mut [u16],

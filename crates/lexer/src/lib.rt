@@ -493,7 +493,7 @@ fn scan_text(text: &[u8], tokens: &mut [Token]) -> usize
 }
 
 // Writes the tokens of a text of at most 256 bytes, and End after them; their number is returned. What lies beyond them is untouched.
-// The bound stands in contracts, here and below, and in no type: the caller's text is a slice.
+// The bound stands in contracts, here and above, and in no type: the caller's text is a slice.
 pub fn scan_tokens(text: &[u8], tokens: &mut [Token]) -> usize
     requires { (length text.now ≤ 256) × Room (length text.now + 1) tokens.old }
     ensures scanned { Scanned text.now result tokens.old tokens.new }

@@ -28,6 +28,7 @@ pub struct Ahead {
     pub pos2: u16,
 }
 
+// What a type is to the token before it; no From, since many types are the same to it.
 pub fn next_of(kind: TokenType) -> Next
     ensures { result ≡ next_of kind }
 {

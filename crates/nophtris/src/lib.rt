@@ -21,7 +21,7 @@ use note::{Note, NoteLiteral, RootModifier};
 use reader::Refusal;
 use writer::buffer::Buffer;
 
-// The letter of a note that is none; and flat, -1, as a byte.
+// The letter of a note that is none; and flat, -1, as a byte: C has them so (`note_bytes`, `alteration_byte`).
 const NONE: u8 = 255;
 
 const FLAT: u8 = 255;

@@ -134,7 +134,8 @@ fn root_effect(root: Option<Note>, next: Next) -> Effect
     }
 }
 
-// The state after the first token; that of any other is `apply`'s. Only kind 9 can be written.
+// The state after the first token; that of any other is `apply`'s, which begins from a state and may write expressions. Only kind 9 can be
+// written here.
 fn begin(root: Option<Note>, next: Next, errs: &mut [u16]) -> State
     requires { 4 ≤ length errs.old }
     ensures { (xs : List Exp) → EffectDone (root_effect root next) start result errs.old errs.new xs xs }

@@ -16,7 +16,7 @@ pub enum Answer {
 }
 
 // What a step says, where the bar lies in the line (from its first byte to the one behind its last), and where the next step begins, which
-// does not depend on what reading gave. Without a bar the place is 0 to 0, as a `Place` has it, and C is given these numbers.
+// does not depend on what reading gave. Without a bar the place is 0 to 0, as a `Place` has it (`Stepped`).
 #[derive(Clone, Copy)]
 pub struct Step {
     pub answer: Answer,

@@ -136,7 +136,7 @@ impl TokenType {
     }
 }
 
-// What a token of a type is to the bracket around it.
+// What a token of a type is to the bracket around it; no From, since many types are the same to it.
 pub fn bracket_kind(kind: TokenType) -> Bracket
     ensures { result ≡ bracket_kind kind }
 {

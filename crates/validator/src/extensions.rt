@@ -65,7 +65,7 @@ const CONFLICTS: [(u8, u8); 8] = [
     (THIRTEENTH, FLAT_THIRTEENTH),
 ];
 
-// The error of the i-th pair, if the set has both.
+// The error of the i-th pair, if the set has both; by place, as `push_each` asks.
 fn conflict_at(set: IntervalSet, i: usize) -> Option<ParserError>
     requires { i < 8 }
     ensures { error_of result ≡ conflict_at (members set) i }
