@@ -17,8 +17,8 @@
  *
  * No heap, no state between calls, no global memory: calls from several threads need no lock, on memory that they do not share.
  *
- * Stack (measured with the older kit, x86-64): less than 4 KiB, and some 500 bytes more for each bracket of a text that is opened inside another: 127 KiB for 255 of
- * them, the most that 256 bytes can open. `bench/stack` measures it.
+ * Stack (measured 2026-11-27, x86-64): less than 4 KiB, and some 270 bytes more for each bracket of a text that is opened inside another:
+ * 71 KiB for 255 of them, the most that 256 bytes can open. `bench/stack` measures it.
  *
  * Link with libnophtris.a on x86-64 Linux (System V calling convention). Of the C library it needs memcpy and memset only.
  */
