@@ -1,8 +1,12 @@
 // The words of a question, one space before each: its first word, decimal numbers, and the bytes behind them.
+ghost use Rattle.std.specs.Prelude.{◌<◌, IfSome};
+
 use crate::fault::Fault;
 
 // The value of a digit.
-fn digit(byte: u8) -> Option<u64> {
+fn digit(byte: u8) -> Option<u64>
+    ensures { IfSome result (λ d. d < 10) }
+{
     match byte {
         b'0'..=b'9' => Some(u64::from(byte - b'0')),
         _ => None,

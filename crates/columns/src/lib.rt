@@ -75,7 +75,8 @@ fn put_line<F: Fn(&mut Output, &[u8])>(out: &mut Output, number: u64, text: &[u8
     out.put(b'\n');
 }
 
-// Answers every line of a reader in a line of its own: its number, from 1, and behind it what `put_answer` appends.
+// Answers every line of a reader in a line of its own: its number, from 1, and behind it what `put_answer` appends. What waits is written
+// where it is much, where a read fails, and at the end.
 // The arrays are the caller's, so that it can be said what is left in them: each `main` has its own.
 pub fn answer_lines<R: Read, W: Write, F: Fn(&mut Output, &[u8])>(
     lines: &mut Lines,
@@ -88,7 +89,7 @@ pub fn answer_lines<R: Read, W: Write, F: Fn(&mut Output, &[u8])>(
     ensures all { OnOk result (lines.new.input.left ≡ 0) }
     ensures none_wait { OnOk result (out.new.used ≡ 0) }
 {
-    lines.answer_all(from, to, out, |_, out, number, text| {
+    lines.answer_holding(usize::MAX, from, to, out, |_, out, number, text| {
         put_line(out, number, text, &put_answer);
         Ok(())
     })

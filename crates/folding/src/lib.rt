@@ -11,10 +11,10 @@ use token::{DIM, DIM7, MAJ, MAJ7, SEVEN, Token};
 // How many tokens there are so far, and how many partners and sevens among them are unpaired. They are counted, so that no token is looked
 // for where none waits.
 #[derive(Clone, Copy, Default)]
-struct Out {
-    at: usize,
-    partners: usize,
-    sevens: usize,
+pub struct Out {
+    pub at: usize,
+    pub partners: usize,
+    pub sevens: usize,
 }
 
 // Which tokens fold: a partner and a 7 make a pair.

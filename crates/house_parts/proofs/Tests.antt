@@ -4,14 +4,13 @@ use mathlib.Core.Bool.{Bool, true, false, ◌&&◌, ◌||◌}
 use mathlib.Core.List.{List, [], ◌∷◌}
 use mathlib.Core.Logic.{◌↔◌}
 use mathlib.Core.Path.{◌≡◌, refl, sym, ap, ap₂, subst, ◌∙◌}
-use Prim.Native.Nat.{ℕ, zero, suc, ◌+◌, ◌<◌}
+use Prim.Native.Nat.{ℕ, suc, ◌+◌, ◌≤◌, ◌<◌}
 use native.Mathlib.Omega.{arith}
 use lib.Dec.{T, eqb, eqb_refl, eqb→eq}
-use lib.ListN.{length, get_or}
+use lib.ListN.{length, drop, drop_of_length-le, get_or}
+use lib.Seq.{drop-cons}
 use Rattle.std.proofs.lemmas.Bool.Decides.{nat_tests}
-use Rattle.std.specs.Bool.{MatchBool}
-use Rattle.std.specs.List.{AllWithin, HoldsAt, list_any, range_with_len}
-use Rattle.std.proofs.lemmas.List.FromFn.{get_or-range_with_len, length-range_with_len}
+use Rattle.std.specs.List.{list_any}
 use Rattle.intervals.specs.Interval.{elem}
 use Rattle.house_parts.specs.Question.{all, same_list}
 use Rattle.house_parts.proofs.Bools.{and_left, and_right, both_pass}
@@ -55,27 +54,15 @@ pub elem_any : (x : ℕ) (l : List ℕ) → list_any (λ y. eqb y x) l ≡ elem 
 elem_any x [] = refl
 elem_any x (y ∷ l) = ap₂ ◌||◌ (flip x y) (elem_any x l)
 
-all-hold : (l : List Bool) → ((k : ℕ) → k < length l → get_or l k true ≡ true) → all l ≡ true
-all-hold [] h = refl
-all-hold (b ∷ l) h = ap₂ ◌&&◌ (h 0 (omega arith)) (all-hold l (λ k i. h (suc k) (omega arith)))
+module _ (l : List Bool) (i : ℕ) where
+  all-next : i < length l → all (drop i l) ≡ get_or l i true && all (drop (i + 1) l)
+  all-next h = ap all (drop-cons l i true h) ∙ ap (λ (j : ℕ). get_or l i true && all (drop j l)) (let e : suc i ≡ i + 1 = omega arith in e)
 
-one_fails : (l : List Bool) (k : ℕ) → k < length l → get_or l k true ≡ false → all l ≡ false
-one_fails [] k i e = absurd (omega arith)
-one_fails (b ∷ l) zero i e = ap (λ (t : Bool). t && all l) e
-one_fails (true ∷ l) (suc k) i e = one_fails l k (omega arith) e
-one_fails (false ∷ l) (suc k) i e = refl
+  pub all_fails : i < length l → get_or l i true ≡ false → all (drop i l) ≡ false
+  all_fails h e = all-next h ∙ ap (λ (t : Bool). t && all (drop (i + 1) l)) e
 
--- an answer that is whether each of the n clauses of l, by their places, holds
-module _ (l : List Bool) (n : ℕ) (e : length l ≡ n) where
-  place : (k : ℕ) → k < n → get_or (range_with_len 0 n) k 0 ≡ k
-  place k i = let z : 0 + k ≡ k = omega arith in get_or-range_with_len 0 n k 0 i ∙ z
+  pub all_past : i < length l → get_or l i true ≡ true → all (drop i l) ≡ all (drop (i + 1) l)
+  all_past h e = all-next h ∙ ap (λ (t : Bool). t && all (drop (i + 1) l)) e
 
-  pub all_test : (r : Bool) → MatchBool r (AllWithin (λ k. get_or l k true ≡ true) (range_with_len 0 n) 0 (length (range_with_len 0 n)))
-      ((k : ℕ) × (k < length (range_with_len 0 n)) × HoldsAt (λ k. get_or l k true ≡ false) (range_with_len 0 n) k) → r ≡ all l
-  all_test true h =
-      let m = length-range_with_len 0 n in
-      sym (all-hold l (λ k i. subst (λ (j : ℕ). get_or l j true ≡ true) (place k (omega arith)) (h k 0 (omega arith) (omega arith))))
-  all_test false h =
-      let m = length-range_with_len 0 n in
-      let i : h.0 < n = omega (arith, h.1, m) in
-      sym (one_fails l h.0 (omega arith) (subst (λ (j : ℕ). get_or l j true ≡ false) (place h.0 i) (h.2 0)))
+  pub all_end : length l ≤ i → all (drop i l) ≡ true
+  all_end h = ap all (drop_of_length-le l h)

@@ -43,7 +43,13 @@ fn clause_at(set: IntervalSet, k: SusKind, i: usize) -> bool
 fn has_clauses(set: IntervalSet, k: SusKind) -> bool
     ensures { result ≡ all (clauses (members set) k) }
 {
-    (0..15).all(|i| clause_at(set, k, i))
+    // A loop and not `all`, which is not unrolled: each clause then takes a jump by a table (docs/DESIGN-PASS.md).
+    for i in 0..15 {
+        if !clause_at(set, k, i) {
+            return false;
+        }
+    }
+    true
 }
 
 // Is the list the one that the set and K give?

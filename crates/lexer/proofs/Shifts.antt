@@ -1,15 +1,13 @@
 -- Tokens that move up by one place, and a token put before them.
 -- Assumes nothing.
-use mathlib.Core.List.{List, ◌∷◌, ◌++◌, append_assoc}
-use mathlib.Core.Path.{◌≡◌, sym, ap, ap₂, ◌∙◌}
-use Prim.Native.Nat.{ℕ, ◌+◌, ◌-◌, ◌<◌, ◌≤◌}
+use mathlib.Core.List.{List, ◌∷◌, ◌++◌}
+use mathlib.Core.Path.{◌≡◌, refl, sym, ap, ap₂, ◌∙◌}
+use Prim.Native.Nat.{ℕ, suc, ◌+◌, ◌-◌, ◌<◌, ◌≤◌}
 use native.Mathlib.Numerals.{add-one}
 use native.Mathlib.Omega.{arith}
-use lib.ListN.{length, set, take, drop, length-set, length-append, length-take, length-drop, take-append-drop}
-use Rattle.std.proofs.lemmas.Slice.{take-put_mid, take-put_mid_below, drop-put_mid, between_is}
-use borrow.Rule.Slice.PartMut.{put_mid}
-use lib.Seq.{drop_at, length-take-le, slice, slice-cons, take-set-le, drop-set-lt, take-take, get_or-set_same}
-use Rattle.token.specs.Token.{token}
+use lib.ListN.{length, set, take, drop, length-set, take-append-drop}
+use lib.Seq.{slice, slice-cons, slice_empty, take-set-le, drop-set-lt, take-take, get_or-take, get_or-set_same}
+use Rattle.token.specs.Token.{token, at}
 use Rattle.token.specs.declared.Token.{Token}
 use Rattle.lexer.specs.State.{Inserted}
 use Rattle.token.proofs.Parts.{slice-later}
@@ -36,28 +34,41 @@ inserted {t} {w} {n} {R₀} {R'} R h b f m r s =
       rest = ap (drop (n + 1)) s ∙ drop-set-lt (n + 1) R w t (omega arith) ∙ r;
     }
 
--- the last of a part that moves to its front, and a token stored over it
-pub rotated : {t : Token} {w n : ℕ} {R ys R' : List Token} → w ≤ n → n + 1 ≤ length R
-    → (let m = take (n + 1 - w) (drop w R) in ys ≡ drop (length m - 1) m ++ take (length m - 1) m)
-    → R' ≡ set (put_mid w (n + 1 - w) R ys) w t → Inserted t w n R R'
-rotated {t} {w} {n} {R} {ys} {R'} h b e s =
-    let m = take (n + 1 - w) (drop w R) in
-    let l : length m ≡ n + 1 - w = length-take-le (n + 1 - w) (drop w R) (omega (arith, length-drop w R)) in
-    let k = length m - 1 in
-    let one : length (drop k m) ≡ 1 = omega (arith, length-drop k m, l) in
-    let rest : length (take k m) ≡ n - w = length-take-le k m (omega arith) ∙ omega (arith, l) in
-    let all : length ys ≡ n + 1 - w = ap length e ∙ length-append (drop k m) (take k m) ∙ omega (arith, one, rest) in
-    let S = put_mid w (n + 1 - w) R ys in
-    let front : take (n + 1) S ≡ take w R ++ ys = take-put_mid w (n + 1 - w) R ys (n + 1) (omega arith) (omega arith) in
-    let first : length (take w R ++ drop k m) ≡ w + 1 = length-append (take w R) (drop k m) ∙ omega (arith, one, length-take-le w R (omega arith)) in
-    let moved : slice (w + 1) (n + 1) S ≡ take k m =
-    ap (drop (w + 1)) (front ∙ ap (λ (l : List Token). take w R ++ l) e ∙ sym (append_assoc (take w R) (drop k m) (take k m)))
-    ∙ drop_at (take w R ++ drop k m) (take k m) (w + 1) first in
-    let d : k ≡ n - w = omega (arith, l) in
-    let part : take k m ≡ slice w n R = take-take k (n + 1 - w) (drop w R) (omega arith) ∙ ap (λ (j : ℕ). take j (drop w R)) d ∙ between_is R w n in
-    let long : n + 1 ≤ length S = omega (arith, ap length front, length-append (take w R) ys, length-take-le w R (omega arith), length-take (n + 1) S) in
-    inserted S h long
-    (take-put_mid_below w (n + 1 - w) R ys w (omega arith) (omega arith))
-    (moved ∙ part)
-    (drop-put_mid w (n + 1 - w) R ys (n + 1) (omega arith) (omega arith) all)
-    s
+-- what the loop keeps true: of the tokens R₀ those from j to n stand one place further
+pub record Shifting (w n : ℕ) (R₀ R : List Token) (j : ℕ) : Type 0 where
+  pub low : w ≤ j
+  pub high : j ≤ n
+  pub front : take j R ≡ take j R₀
+  pub moved : slice (j + 1) (n + 1) R ≡ slice j n R₀
+  pub rest : drop (n + 1) R ≡ drop (n + 1) R₀
+
+module _ {w n : ℕ} where
+  pub shifting_start : (R : List Token) → w ≤ n → Shifting w n R R n
+  shifting_start R h = record { low = h; high = omega arith; front = refl; moved = slice_empty (n + 1) R ∙ sym (slice_empty n R); rest = refl }
+
+  pub shifting_step : {R₀ R R' : List Token} {j : ℕ} → n + 1 ≤ length R → n ≤ length R₀ → w < j → Shifting w n R₀ R j → R' ≡ set R (j - 1 + 1) (at R (j - 1)) → Shifting w n R₀ R' (j - 1)
+  shifting_step {R₀} {R} {R'} {j} b b₀ h S stored =
+      let hi = S.high in
+      let t = at R (j - 1) in
+      let e : j - 1 + 1 ≡ j = omega arith in
+      let s : R' ≡ set R j t = stored ∙ ap (λ (k : ℕ). set R k t) e in
+      let e₂ : suc (j - 1) ≡ j = omega arith in
+      let d = token 0 0 0 in
+      let a : at R (j - 1) ≡ at R₀ (j - 1) = sym (get_or-take j R (j - 1) d (omega arith)) ∙ ap (λ (l : List Token). at l (j - 1)) S.front ∙ get_or-take j R₀ (j - 1) d (omega arith) in
+      record {
+        low = omega arith;
+        high = omega arith;
+        front = ap (take (j - 1)) s ∙ take-set-le (j - 1) R j t (omega arith) ∙ sym (take-take (j - 1) j R (omega arith)) ∙ ap (take (j - 1)) S.front ∙ take-take (j - 1) j R₀ (omega arith);
+        moved = ap₂ (λ (k : ℕ) (l : List Token). slice k (n + 1) l) e s ∙ put_front R t j (n + 1) (omega arith) b
+            ∙ ap₂ (λ (x : Token) (l : List Token). x ∷ l) a (S.moved ∙ ap (λ (k : ℕ). slice k n R₀) (sym e₂))
+            ∙ sym (slice-cons (j - 1) n R₀ d (omega arith) b₀);
+        rest = ap (drop (n + 1)) s ∙ drop-set-lt (n + 1) R j t (omega arith) ∙ S.rest;
+      }
+
+  pub shifting_end : {t : Token} {R₀ R R' : List Token} {j : ℕ} → n + 1 ≤ length R → j ≤ w → Shifting w n R₀ R j → R' ≡ set R w t → Inserted t w n R₀ R'
+  shifting_end {t} {R₀} {R} {R'} {j} b h S s =
+      let hi = S.high in
+      let e : w ≡ j = omega (arith, S.low) in
+      let f : take w R ≡ take w R₀ = ap (λ (k : ℕ). take k R) e ∙ S.front ∙ ap (λ (k : ℕ). take k R₀) (sym e) in
+      let m : slice (w + 1) (n + 1) R ≡ slice w n R₀ = ap (λ (k : ℕ). slice (k + 1) (n + 1) R) e ∙ S.moved ∙ ap (λ (k : ℕ). slice k n R₀) (sym e) in
+      inserted R (omega (arith, S.low)) b f m S.rest s

@@ -373,9 +373,12 @@ fn head_by(text: &[u8], at: usize, c: u32, n: usize) -> Head
     requires { (is_letter c ≡ false) × (at + n ≤ length text.now) × (length text.now ≤ 256) }
     ensures { result ≡ head_by (utf8.Char c n) (drop at text.now) }
 {
+    // The space first, which is common and by itself.
+    if c == 32 {
+        return Head::Space;
+    }
     match digit_of(c) {
         Some(d) => number_head(d, n, digit_at(text, at + n)),
-        None if c == 32 => Head::Space,
         None => sign_head(c, n),
     }
 }
@@ -433,7 +436,10 @@ fn insert(tokens: &mut [Token], place: usize, n: usize, token: Token)
     requires { (place ≤ n) × Room (n + 1) tokens.old }
     ensures { Inserted token place n tokens.old tokens.new }
 {
-    tokens[place..n + 1].rotate_right(1);
+    // One by one: `rotate_right` calls memmove, and of the C library the linked library needs memcpy and memset alone.
+    for j in (place..n).rev() {
+        tokens[j + 1] = tokens[j];
+    }
     tokens[place] = token;
 }
 

@@ -211,23 +211,44 @@ impl<'a> Lines<'a> {
         R: Read,
         W: Write,
         F: FnMut(&mut W, &mut Output, u64, &[u8]) -> io::Result<()>,
-    >(&mut self, from: &mut R, to: &mut W, out: &mut Output, mut answer: F) -> io::Result<()>
+    >(&mut self, from: &mut R, to: &mut W, out: &mut Output, answer: F) -> io::Result<()>
+        requires { F.IsAlwaysCallable answer }
+        ensures all { OnOk result (self.new.input.left ≡ 0) }
+        ensures none_wait { OnOk result (out.new.used ≡ 0) }
+    {
+        self.answer_holding(0, from, to, out, answer)
+    }
+
+    // As `answer_all`, but less than `most` bytes go on waiting while the next block is waited for. A failed read loses none of them.
+    pub fn answer_holding<
+        R: Read,
+        W: Write,
+        F: FnMut(&mut W, &mut Output, u64, &[u8]) -> io::Result<()>,
+    >(
+        &mut self,
+        most: usize,
+        from: &mut R,
+        to: &mut W,
+        out: &mut Output,
+        mut answer: F,
+    ) -> io::Result<()>
         requires { F.IsAlwaysCallable answer }
         ensures all { OnOk result (self.new.input.left ≡ 0) }
         ensures none_wait { OnOk result (out.new.used ≡ 0) }
     {
         // A `while`: a turn takes a line or a block, and says itself whether one may follow.
         while 0 < self.input.left {
-            let most = if self.input.at < self.input.end {
-                MUCH
-            } else {
-                0
-            };
-            out.room(to, most)?;
-            self.next(from)?;
+            if let Err(error) = self.next(from) {
+                out.room(to, 0)?;
+                return Err(error);
+            }
             let number = self.input.lines;
             if let Some(line) = self.ready() {
+                out.room(to, MUCH)?;
                 answer(to, out, number, line)?;
+            }
+            if self.input.at == self.input.end {
+                out.room(to, most)?;
             }
         }
         out.flush(to)

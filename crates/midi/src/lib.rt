@@ -1,7 +1,7 @@
 // MIDI out: from the keys that sound to those of the next chord, in messages.
 #![tactic(auto)]
 
-ghost use Rattle.std.specs.Prelude.{◌≡◌};
+ghost use Rattle.std.specs.Prelude.{◌≡◌, OnErr};
 ghost use Rattle.midi.specs.Midi.{number};
 ghost use Rattle.midi.specs.State.{Next};
 
@@ -39,7 +39,8 @@ impl From<Refusal> for u8 {
 // and their length is returned; all else in the output is untouched. A chord that is refused leaves the keys that sound and the whole
 // output as they were.
 pub fn next(sounding: &mut Keys, base: u8, chord: Chord, out: &mut [u8]) -> Result<usize, Refusal>
-    ensures { Next sounding.old base chord out.old out.new (record { answer = result; keys = sounding.new }) }
+    ensures next { Next sounding.old base chord out.old out.new (record { answer = result; keys = sounding.new }) }
+    ensures refused { OnErr result (sounding.new ≡ sounding.old) }
 {
     if !has_text(chord) {
         return Err(Refusal::NoText);

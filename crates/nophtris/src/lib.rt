@@ -214,7 +214,10 @@ fn list_in(bytes: &[u8; 51]) -> IntervalList
     ensures { listed result ≡ (values_in bytes.now).display }
 {
     let mut numbers = [0; 23];
-    numbers.copy_from_slice(&bytes[28..51]);
+    // One by one: what `copy_from_slice` puts here is copied on in other pieces, and waits for them.
+    for i in 0..23 {
+        numbers[i] = bytes[28 + i];
+    }
     IntervalList {
         numbers,
         len: usize::from(bytes[27]),
@@ -228,6 +231,9 @@ fn is_set(bytes: &[u8; 51]) -> bool
     bytes[4..27].iter().all(|b| *b <= 1)
 }
 
+// Does each value lie in its range? Not inlined: in `decode` each of the 23 bytes would be kept in a place of its own for `set_in`, which
+// takes twice the instructions (docs/DESIGN-PASS.md).
+#[inline(never)]
 #[tactic(auto, unfolding(crate::specs::Boundary::inside))]
 fn is_inside(bytes: &[u8; 51]) -> bool
     ensures { result ≡ inside bytes.now }

@@ -138,3 +138,31 @@ fn write_all<W: Write>(to: &mut W, bytes: &[u8]) -> Result<(), Error>
     }
     Ok(())
 }
+
+// Writes the first `used` of bytes that are lent for reading. None wait then. After an error the writer has a first part of them.
+pub fn flush<W: Write>(to: &mut W, out: &[u8], used: usize) -> Result<usize, Error>
+    ensures none_wait { IfOk result (λ n. n ≡ 0) }
+    ensures beyond { length out.now < used → result ≡ Ok 0 }
+    ensures written { used ≤ length out.now → OnOk result (Appends (W.contents to.old) (W.contents to.new) (take used out.now)) }
+    ensures failed { OnErr result (AppendsPart (W.contents to.old) (W.contents to.new) (take used out.now)) }
+{
+    if used <= out.len() {
+        write_all(to, &out[..used])?;
+    }
+    Ok(0)
+}
+
+// Makes room: writes the first `used` bytes where they are `most` or more. An error is as that of `flush`.
+pub fn room<W: Write>(to: &mut W, out: &[u8], used: usize, most: usize) -> Result<usize, Error>
+    ensures waiting { IfOk result (λ n. n ≡ cond (ltb used most) used 0) }
+    ensures kept { used < most → to.new ≡ to.old }
+    ensures enough { used < most → result ≡ Ok used }
+    ensures written { most ≤ used → used ≤ length out.now →
+        OnOk result (Appends (W.contents to.old) (W.contents to.new) (take used out.now)) }
+    ensures failed { OnErr result (AppendsPart (W.contents to.old) (W.contents to.new) (take used out.now)) }
+{
+    if used < most {
+        return Ok(used);
+    }
+    flush(to, out, used)
+}

@@ -50,36 +50,37 @@ fits_small : {h : Here} {e : Effect} {st : State} → Small h e → h.context �
 fits_small {h} {e} {st} s c d = record { gained = rw (← c) s.gained; counted = rw (← d) s.counted; taken = s.taken }
 
 -- a token has the same effect before all tokens ahead that tell it what it asks for
-told : (k : TokenType) (h : Here) (x y : Ahead) → Foreseen k y x → step_of k h x ≡ step_of k h y
-told (type.Note l) h x y f = refl
-told type.Sharp h x y f = ap (modifier_step Sharp h) f
-told type.Flat h x y f = ap (modifier_step Flat h) f
-told type.Aug h x y f = ap (aug_step h) f
-told type.Dim h x y f = refl
-told type.Dim7 h x y f = refl
-told type.HalfDim h x y f = refl
-told (type.Extension m) h x y f = refl
-told type.Add h x y f = ap (add_step h) f
-told type.Omit h x y f = ap (omit_step h) f
-told type.Alt h x y f = refl
-told type.Sus h x y f = ap (sus_step h) f
-told type.Minor h x y f = refl
-told type.Hyphen h x y f = ap (hyphen_step h) f
-told type.Maj h x y f = refl
-told type.Maj7 h x y f = refl
-told type.Slash h x y f = ap (slash_step h) f
-told type.LParent h x y f = refl
-told type.RParent h x y f = refl
-told type.Comma h x y f = refl
-told type.Bass h x y f = refl
-told type.Illegal h x y f = refl
-told type.Eof h x y f = refl
+told_step : (k : TokenType) (h : Here) (x y : Ahead) → Foreseen k y x → step_of k h x ≡ step_of k h y
+told_step (type.Note l) h x y f = refl
+told_step type.Sharp h x y f = ap (modifier_step Sharp h) f
+told_step type.Flat h x y f = ap (modifier_step Flat h) f
+told_step type.Aug h x y f = ap (aug_step h) f
+told_step type.Dim h x y f = refl
+told_step type.Dim7 h x y f = refl
+told_step type.HalfDim h x y f = refl
+told_step (type.Extension m) h x y f = refl
+told_step type.Add h x y f = ap (add_step h) f
+told_step type.Omit h x y f = ap (omit_step h) f
+told_step type.Alt h x y f = refl
+told_step type.Sus h x y f = ap (sus_step h) f
+told_step type.Minor h x y f = refl
+told_step type.Hyphen h x y f = ap (hyphen_step h) f
+told_step type.Maj h x y f = refl
+told_step type.Maj7 h x y f = refl
+told_step type.Slash h x y f = ap (slash_step h) f
+told_step type.LParent h x y f = refl
+told_step type.RParent h x y f = refl
+told_step type.Comma h x y f = refl
+told_step type.Bass h x y f = refl
+told_step type.Illegal h x y f = refl
+told_step type.Eof h x y f = refl
 
-told_by : (b : Bracket) (q : ℕ) (k : TokenType) (h : Here) (x y : Ahead) → Foreseen k y x → inside_of b q k h x ≡ inside_of b q k h y
-told_by Opens q k h x y f = refl
-told_by Closes q k h x y f = refl
-told_by Ends q k h x y f = refl
-told_by Other q k h x y f = told k h x y f
+-- between brackets too
+told : (b : Bracket) (q : ℕ) (k : TokenType) (h : Here) (x y : Ahead) → Foreseen k y x → inside_of b q k h x ≡ inside_of b q k h y
+told Opens q k h x y f = refl
+told Closes q k h x y f = refl
+told Ends q k h x y f = refl
+told Other q k h x y f = told_step k h x y f
 
 -- what the token step decides of the token at st, from the tokens behind it, is its effect, and fits the state
 pub effect_at_lem : (ts : List Token) (xs : List Exp) (st : State) (inside : Option ℕ) {b : Bracket} {q : ℕ} {k : TokenType} {h : Here} (a : Ahead) {r : Effect}
@@ -88,7 +89,7 @@ pub effect_at_lem : (ts : List Token) (xs : List Exp) (st : State) (inside : Opt
     → (r ≡ effect_in ts xs st inside) × Fits st r
 effect_at_lem ts xs st inside {b} {q} {k} {h} a {r} eb eq ek eh ea er =
     let rest = drop (st.at + 1) ts in
-    let t = told_by b q k h a _ (subst (λ (l : List Token). Foreseen k (ahead_of l) a) (take_rest ts (st.at + 1)) ea) in
+    let t = told b q k h a _ (subst (λ (l : List Token). Foreseen k (ahead_of l) a) (take_rest ts (st.at + 1)) ea) in
     let e : r ≡ effect_in ts xs st inside = er ∙ t ∙ (λ i. inside_of (eb i) (eq i) (ek i) (eh i) (ahead_of rest)) in
     let s = inside-small (bracket_by inside (bracket_of (at ts st.at))) (unwrap_or inside 0) (type_of (at ts st.at).kind) (here_in (at ts st.at) xs st) (ahead_of rest) in
     (e, subst (Fits st) (sym e) (fits_small s refl refl))

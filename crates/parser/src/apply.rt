@@ -52,11 +52,16 @@ pub(crate) fn apply(st: State, e: Effect, errs: &mut [u16], exps: &mut [Exp]) ->
     requires { Ready st × (st.at < 257) × Fits st e × Space errs.old exps.old }
     ensures { EffectDone e st result errs.old errs.new exps.old exps.new }
 {
+    // In locals: taken out of `e` where they are used, the expressions are read in other pieces than they were written in, and waited for.
+    let gains = e.gains;
+    let error = e.error;
+    let errors = push_error(errs, st.errors, error);
+    let exps = push_exps(exps, st.exps, gains);
     State {
         at: st.at + 1 + e.taken,
         count: e.count,
         context: e.context,
-        errors: push_error(errs, st.errors, e.error),
-        exps: push_exps(exps, st.exps, e.gains),
+        errors,
+        exps,
     }
 }

@@ -22,8 +22,11 @@ impl<'a> Buffer<'a> {
         requires { self.old.len + length bytes.now ≤ length self.old.bytes.now }
         ensures { Grew self.old self.new bytes.now }
     {
-        let end = self.len + bytes.len();
-        self.bytes[self.len..end].copy_from_slice(bytes);
-        self.len = end;
+        // One by one: `copy_from_slice` calls memmove, and of the C library the linked library needs memcpy and memset alone.
+        let from = self.len;
+        for (i, byte) in bytes.iter().enumerate() {
+            self.bytes[from + i] = *byte;
+        }
+        self.len = from + bytes.len();
     }
 }

@@ -1,7 +1,7 @@
 -- A digit goes by the one behind it, as in the definition; the other choices are found.
-use Rattle.std.proofs.Common.{◌+◌, drop, sym, ap₂, ◌∙◌, arith, length-drop, drop-drop}
+use Rattle.std.proofs.Common.{refl, ◌+◌, drop, sym, ap₂, ◌∙◌, arith, length-drop, drop-drop}
 use Rattle.utf8.specs.Utf8.{char_of}
-use Rattle.lexer.specs.Lexer.{number_by}
+use Rattle.lexer.specs.Lexer.{digit_of, number_by}
 use Rattle.lexer.proofs.Heads.{behind_head, behind_small, digit_some, is_digit_lem}
 use Rattle.lexer.proofs.head_by.Goals as goal
 
@@ -20,3 +20,7 @@ returns-in-Some c =
     (c.number_head.ensures
     ∙ behind_head _ _ _ c.digit_at.ensures
     ∙ ap₂ (λ x t. number_by x a.n (char_of t)) d.0 (sym (drop-drop a.n a.at a.text.now)))
+
+pub returns-then-c-eq32 : goal.returns-then-c-eq32
+unfolding digit_of
+returns-then-c-eq32 c = rw (c.requires.0, c.if-c-eq32.true) refl

@@ -1,7 +1,10 @@
--- The tokens from the place on move up by one, the last of them to the front, and the token is stored over it.
-use Rattle.std.proofs.Common.{refl}
-use Rattle.lexer.proofs.Shifts.{rotated}
+-- A turn moves the token before j up to j; at the end the place holds the token.
+use Rattle.std.proofs.Common.{refl, arith}
+use Rattle.lexer.proofs.Shifts.{shifting_step, shifting_end}
 use Rattle.lexer.proofs.insert.Goals as goal
 
+pub loop-j-preserved : goal.loop-j-preserved
+loop-j-preserved c = shifting_step (omega arith) (omega arith) c.loop-j-test.true c.loop-j.invariant refl
+
 pub returns : goal.returns
-returns c = rotated c.requires.0 c.requires.1 c.rotate_right.ensures.after refl
+returns c = shifting_end (omega arith) c.loop-j-test.false c.loop-j.invariant refl

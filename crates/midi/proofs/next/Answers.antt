@@ -17,16 +17,16 @@ use Rattle.writer.proofs.Answers.{is_test, negated}
 use Rattle.writer.proofs.Puts.{put_as, put_from}
 use Rattle.midi.proofs.next.Goals as goal
 
-pub returns-then-not-has_text : goal.returns-then-not-has_text
-returns-then-not-has_text c =
+pub returns-then-not-has_text-clause-next : goal.returns-then-not-has_text-clause-next
+returns-then-not-has_text-clause-next c =
     let a = c.args in
     let s = members a.sounding.now in
     let t = c.has_text in
     let e = is_test a.chord t.result t.ensures ∙ negated _ _ c.if-not-has_text.true-raw in
     gave_refused NoText a.sounding.now a.out.now (next-no_text _ s a.base (four_of a.chord) e)
 
-pub returns-then-wanted : goal.returns-then-wanted
-returns-then-wanted c =
+pub returns-then-wanted-clause-next : goal.returns-then-wanted-clause-next
+returns-then-wanted-clause-next c =
     let a = c.args in
     let s = members a.sounding.now in
     let t = c.has_text in
@@ -34,8 +34,8 @@ returns-then-wanted c =
     let o = sym c.keys_of-wanted.ensures.others ∙ c.if-wanted.true in
     gave_refused OutsideKeys a.sounding.now a.out.now (next-outside _ s a.base (four_of a.chord) e o)
 
-pub returns-then-out-length_between : goal.returns-then-out-length_between
-returns-then-out-length_between c =
+pub returns-then-out-length_between-clause-next : goal.returns-then-out-length_between-clause-next
+returns-then-out-length_between-clause-next c =
     let a = c.args in
     let s = members a.sounding.now in
     let f = four_of a.chord in
@@ -49,8 +49,8 @@ returns-then-out-length_between c =
     in
     gave_refused ShortOutput a.sounding.now a.out.now (next-short _ s a.base f e o h)
 
-pub returns : goal.returns
-returns c =
+pub returns-clause-next : goal.returns-clause-next
+returns-clause-next c =
     let a = c.args in
     let s = members a.sounding.now in
     let f = four_of a.chord in
