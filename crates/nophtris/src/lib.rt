@@ -232,7 +232,7 @@ fn is_set(bytes: &[u8; 51]) -> bool
 }
 
 // Does each value lie in its range? Not inlined: in `decode` each of the 23 bytes would be kept in a place of its own for `set_in`, which
-// takes twice the instructions (docs/DESIGN-PASS.md).
+// takes half as many instructions again (docs/DESIGN-PASS.md).
 #[inline(never)]
 #[tactic(auto, unfolding(crate::specs::Boundary::inside))]
 fn is_inside(bytes: &[u8; 51]) -> bool
