@@ -48,6 +48,16 @@ unfolding count
 count_snoc k [] t = omega arith
 count_snoc k (x ∷ ts) t = let h : count k (ts ++ (t ∷ [])) ≡ count k ts + one (is k t) = count_snoc k ts t in omega arith
 
+-- putting a token in the place of another
+pub count_set : (k : ℕ) (ts : List Token) (j : ℕ) (t : Token) → j < length ts
+    → count k (set ts j t) + one (is k (at ts j)) ≡ count k ts + one (is k t)
+unfolding count
+count_set k [] j t b = absurd (omega arith)
+count_set k (x ∷ ts) zero t b = omega arith
+count_set k (x ∷ ts) (suc j) t b =
+    let h : count k (set ts j t) + one (is k (at ts j)) ≡ count k ts + one (is k t) = count_set k ts j t (omega arith) in
+    omega arith
+
 pub one-zero : (b : Bool) → one b ≡ 0 → b ≡ false
 one-zero true h = absurd (omega arith)
 one-zero false h = refl

@@ -1,6 +1,6 @@
 -- The turns of the folding loop: those before i are folded, and what is folded onto them is what comes from i on.
 use mathlib.Core.List.{List, [], ◌∷◌}
-use mathlib.Core.Path.{◌≡◌, sym, ap, ap₂, ◌∙◌}
+use mathlib.Core.Path.{◌≡◌, refl, sym, ap, ap₂, ◌∙◌}
 use Prim.Native.Nat.{ℕ, ◌+◌, ◌<◌, ◌≤◌}
 use native.Mathlib.Omega.{arith}
 use lib.ListN.{length, take, drop}
@@ -17,6 +17,7 @@ use Rattle.token.proofs.Parts.{later}
 pub record Folding (m r : ℕ) (R₀ R : List Token) (o : Out) (i : ℕ) : Type 0 where
   pub low : o.at ≤ i
   pub same : fold_on m r (take o.at R) (drop i R) ≡ fold7 m r R₀
+  pub rest : drop o.at R ≡ drop o.at R₀
   pub counted : Counted m o R
 
 module _ (m r : ℕ) where
@@ -27,6 +28,7 @@ module _ (m r : ℕ) where
       record {
         low = omega (arith, a);
         same = ap (λ (l : List Token). fold_on m r l R) none;
+        rest = refl;
         counted = record { partners = p ∙ sym (ap (count m) none); sevens = q ∙ sym (ap (count seven) none) };
       }
 
@@ -39,6 +41,7 @@ module _ (m r : ℕ) where
       record {
         low = omega (arith, S.most, F.low);
         same = ap₂ (fold_on m r) S.list d ∙ sym (ap (fold_on m r (take o.at R)) c) ∙ F.same;
+        rest = S.rest ∙ later R R₀ o.at o'.at S.more F.rest;
         counted = S.counted;
       }
 
@@ -48,6 +51,7 @@ module _ (m r : ℕ) where
   folding_end {R₀} {R} {o} {i} h g F =
       record {
         list = sym (ap (fold_on m r (take o.at R)) (drop_of_length-le R h)) ∙ F.same;
+        rest = F.rest;
         fewer = omega (arith, F.low);
       }
 

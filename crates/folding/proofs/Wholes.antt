@@ -105,6 +105,7 @@ unfolding concat
 joining_end {R₀} {R} {w} {i} h n J =
     record {
       list = sym (append-nil (take w R)) ∙ sym (ap (λ (l : List Token). take w R ++ concat l) (drop_of_length-le R h)) ∙ J.same;
+      rest = J.rest;
       fewer = omega (arith, J.low, J.high);
     }
 

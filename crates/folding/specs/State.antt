@@ -42,9 +42,10 @@ pub record Stepped (m r i : ℕ) (o o' : Out) (R R' : List Token) : Type 0 where
   pub most : o'.at ≤ o.at + 1
   pub counted : Counted m o' R'
 
--- the tokens R became the first e of R', as f says
+-- the tokens R became the first e of R', as f says, and the rest is untouched
 pub record Turned (f : List Token → List Token) (e : ℕ) (R R' : List Token) : Type 0 where
   pub list : take e R' ≡ f R
+  pub rest : drop e R' ≡ drop e R
   pub fewer : e ≤ length R
 
 -- there is a token after token i, and the two make a Maj7

@@ -2,7 +2,7 @@
 -- that all others are skipped at once (`skip`), and so are ends at which no word with the text's letter ends (`down`). The loop over the
 -- words of a letter is `Chosen`, with its start, step and ends; its measure is `rank`.
 -- Assumes nothing.
-use mathlib.Core.Bool.{Bool, true, false, ◌&&◌, cond, and-false}
+use mathlib.Core.Bool.{Bool, true, false, ◌&&◌, ◌||◌, cond, and-false, true≢false}
 use mathlib.Core.List.{List, [], ◌∷◌}
 use mathlib.Core.Path.{◌≡◌, refl, sym, ap, ap₂, ◌∙◌, subst}
 use Prim.Native.Nat.{ℕ, zero, suc, ◌+◌, ◌-◌, ◌*◌, ◌≤◌, ◌<◌}
@@ -217,6 +217,27 @@ module _ (i n b : ℕ) (h : i < 55) (size : letters_in (word_at i) ≡ suc n) (l
           rank_below (place_down b n) (rank i)
           (λ k. omega (arith, d.short (omega (arith, words_count)), rank_in i h))
           (omega (arith, rank_in i h))
+
+-- does a word of a list begin with b?
+unfoldable pub starts : ℕ → List Word → Bool
+starts b [] = false
+starts b (w ∷ ws) = eqb (initial w) b || starts b ws
+
+-- a letter that no word begins with
+no_place : (b n : ℕ) (ws : List Word) → starts b ws ≡ false → place_of b n ws ≡ length ws
+unfolding starts place_of
+no_place b n [] e = refl
+no_place b n (w ∷ ws) e = go (eqb (initial w) b) e (no_place b n ws)
+  where
+    go : (x : Bool) → (x || starts b ws) ≡ false → (starts b ws ≡ false → place_of b n ws ≡ length ws)
+        → cond (x && eqb (letters_in w) n) 0 (suc (place_of b n ws)) ≡ suc (length ws)
+    go true e ih = absurd (true≢false e)
+    go false e ih = ap suc (ih e)
+
+pub no_start : (b n : ℕ) → starts b words ≡ false → place_down b n ≡ 55
+unfolding place_down
+no_start b zero e = words_count
+no_start b (suc n) e = rw (no_place b (suc n) words e, le-ltb (length words) (length words) (omega arith)) (no_start b n e)
 
 -- the longest word has ten letters, by computation
 pub longest_is : longest_word ≡ 10

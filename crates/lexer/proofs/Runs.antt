@@ -11,7 +11,7 @@ use native.Mathlib.Nat.{add-zero, add-suc}
 use native.Mathlib.Numerals.{add-one}
 use native.Mathlib.Omega.{arith}
 use lib.Dec.{T, eqb, leb, ltb, leb→le, eqb→eq}
-use lib.ListN.{length, get_or, drop}
+use lib.ListN.{length, get_or, drop, drop_of_length-le}
 use lib.Seq.{drop-cons}
 use borrow.Author.Tests.{eqb-true, ltb-false, ne_eqb}
 use mir.Facts.{and_yes}
@@ -53,7 +53,11 @@ run_within (b ∷ s) = go (is_letter b) (run_within s)
     go true h = omega arith
     go false h = omega arith
 
--- the run at a place: no letter stands there, or one
+-- the run at a place: the text has ended, no letter stands there, or one
+pub run_done : (s : List ℕ) (i : ℕ) → length s ≤ i → run_end (drop i s) ≡ 0
+unfolding run_end
+run_done s i h = rw (drop_of_length-le s h)
+
 module _ (s : List ℕ) (i : ℕ) (h : i < length s) where
   pub run_stop : is_letter (get_or s i 0) ≡ false → run_end (drop i s) ≡ 0
   run_stop e = rw (drop-cons s i 0 h) (run_none (get_or s i 0) (drop (suc i) s) e)

@@ -9,6 +9,7 @@ use native.Mathlib.Numerals.{add-one}
 use native.Mathlib.Omega.{arith}
 use lib.ListN.{length, take, drop, set, length-append, drop_of_length-le, length-drop}
 use lib.Seq.{slice, slice_empty, drop-cons, drop-drop, take-take, take_at, drop_at, length-take-le, take-suc-set, drop-set-lt}
+use Rattle.std.specs.Prelude.{IfSome}
 use Rattle.token.specs.Token.{token, Room}
 use Rattle.token.specs.declared.Token.{Token}
 use Rattle.lexer.specs.Lexer.{head_of, emit, illegal, lex, size_of, word_head}
@@ -56,6 +57,14 @@ module _ {t : Token} {p n : ℕ} {R R' : List Token} (le : p ≤ n) (b : n + 1 �
 
   pub back : slice (p + 1) (n + 1) R' ≡ slice p n R
   back = ap (drop (p + 1)) list-two ∙ drop_at (take p R ++ (t ∷ [])) (slice p n R) (p + 1) front_length
+
+-- the place of a token to add is among the tokens
+pub place-low : (h : Head) (s : Scan) → s.held ≤ s.count → IfSome (plan_of h s).added (λ a. a.place ≤ s.count)
+place-low head.Space s h = tt
+place-low (head.Sign k n) s h = omega arith
+place-low (head.Word k n) s h = omega arith
+place-low (head.Number k t n) s h = h
+place-low (head.Digit n) s h = h
 
 -- the place behind a head
 next_place : (h : Head) (s : Scan) → (plan_of h s).next.at ≡ s.at + size_of h

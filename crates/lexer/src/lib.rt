@@ -2,12 +2,12 @@
 #![tactic(auto)]
 
 ghost use mathlib.Core.List.{[]};
-ghost use Rattle.std.specs.Prelude.{false, ◌≡◌, ◌+◌, ◌<◌, ◌≤◌, min, length, drop};
+ghost use Rattle.std.specs.Prelude.{false, ◌≡◌, ◌+◌, ◌<◌, ◌≤◌, min, length, drop, set};
 ghost use Rattle.intervals.specs.Interval.{elem};
 ghost use Rattle.token.specs.Token.{token as token_of, Room, Untouched};
 ghost use Rattle.utf8.specs.Utf8.{begins, char_at};
 ghost use Rattle.lexer.specs.Words.{is_letter, run_end, word_by_ends};
-ghost use Rattle.lexer.specs.Lexer.{raised_numerals, place_in, digit_of, sign_of, sign_head, word_head, two_digits, one_digit, number_head, number_by, head_by, head_of, size_of, lex};
+ghost use Rattle.lexer.specs.Lexer.{end_of, raised_numerals, place_in, digit_of, sign_of, sign_head, word_head, two_digits, one_digit, number_head, number_by, head_by, head_of, size_of, lex};
 ghost use Rattle.lexer.specs.declared.Match.{Match};
 ghost use Rattle.lexer.specs.State.{other_than, found_word, digit_in_or, bytes_in_or, digit_found, one_head, word_rows, row_at, word_at, last_end, longest_word, place_down, scan, plan, plan_of, Inserted, Emitted, Scannable, Went, Written, Scanned};
 ghost use Rattle.utf8.specs.declared.Found.TheVariants as utf8;
@@ -498,6 +498,19 @@ fn scan_text(text: &[u8], tokens: &mut [Token]) -> usize
     s.count
 }
 
+// Puts the End of a text behind n tokens.
+fn put_end(text: &[u8], tokens: &mut [Token], n: usize)
+    requires { (length text.now ≤ 256) × (n < length tokens.old) }
+    ensures { tokens.new ≡ set tokens.old n (end_of text.now) }
+{
+    let end = text.len() + 1;
+    tokens[n] = Token {
+        kind: EOF,
+        pos: end as u16,
+        len: 0,
+    };
+}
+
 // Writes the tokens of a text of at most 256 bytes, and End after them; their number is returned. What lies beyond them is untouched.
 // The bound stands in contracts, here and above, and in no type: the caller's text is a slice.
 pub fn scan_tokens(text: &[u8], tokens: &mut [Token]) -> usize
@@ -506,11 +519,6 @@ pub fn scan_tokens(text: &[u8], tokens: &mut [Token]) -> usize
     ensures untouched { Untouched result tokens.old tokens.new }
 {
     let n = scan_text(text, tokens);
-    let end = text.len() + 1;
-    tokens[n] = Token {
-        kind: EOF,
-        pos: end as u16,
-        len: 0,
-    };
+    put_end(text, tokens, n);
     n + 1
 }

@@ -310,6 +310,7 @@ fn next_held(
 
 // Goes from any keys that sound to any record, over any base key. The number is returned, 0 for a chord that is not refused; only then the
 // messages stand in the output, their length in `size`, and the keys that sound now in `sounding`.
+#[tactic(auto, unfolding(crate::specs::Boundary::next_in))]
 pub fn nophtris_midi(
     sounding: &mut [u8; 16],
     base: u8,

@@ -1,7 +1,7 @@
 -- Letters, modifiers and notes are found again from their numbers.
 -- Assumes nothing.
 use mathlib.Core.Path.{◌≡◌, refl, ap, ◌∙◌}
-use Prim.Native.Nat.{◌+◌, ◌*◌, ◌/◌, ◌%◌, ◌<◌}
+use Prim.Native.Nat.{ℕ, ◌+◌, ◌*◌, ◌/◌, ◌%◌, ◌<◌}
 use native.Mathlib.Omega.{arith}
 use Rattle.note.specs.Note.{letter_number, letter_of, modifier_number, modifier_of, note_number, note_of}
 use Rattle.note.specs.declared.Note.{Note}
@@ -49,3 +49,7 @@ note_back n =
     let a : letter_of ((3 * l + m) / 3) ≡ n.literal = ap letter_of q ∙ letter-back n.literal in
     let b : modifier_of ((3 * l + m) % 3) ≡ n.modifier = ap modifier_of r ∙ modifier_number-back n.modifier in
     λ i. record { literal = a i; modifier = b i }
+
+-- what the number of a note says: it is small, and the note is found again from it
+pub numbered : (n : Note) (k : ℕ) → k ≡ note_number n → (k ≡ note_number n) × (note_of k ≡ n) × (k < 21)
+numbered n k e = (e, ap note_of e ∙ note_back n, omega (arith, e, letter-low n.literal, modifier_low n.modifier))

@@ -53,6 +53,10 @@ put_then {n} {m} {r} {s} {t} {b} {b'} {b''} p q =
 pub put_as : {n r : ℕ} {s t b b' : List ℕ} → s ≡ t → Put s n r b b' → Put t n r b b'
 put_as {n} {r} {s} {t} {b} {b'} e p = subst (λ (k : List ℕ). Put k n r b b') e p
 
+-- from the same place by another name
+pub put_from : {m n r : ℕ} {t b b' : List ℕ} → m ≡ n → Put t m r b b' → Put t n r b b'
+put_from {m} {n} {r} {t} {b} {b'} e p = subst (λ (k : ℕ). Put t k r b b') e p
+
 -- one more byte of a text
 pub put_next : {n m r : ℕ} {b b' b'' : List ℕ} (t : List ℕ) (i : ℕ) → i < length t →
     Put (take i t) n m b b' → Put (get_or t i 0 ∷ []) m r b' b'' → Put (take (i + 1) t) n r b b''

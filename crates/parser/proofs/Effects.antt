@@ -1,4 +1,5 @@
 -- The effect of a token: how much it gains, and that it fits the state, from the tokens ahead that the token asks for.
+use mathlib.Core.Bool.{Bool, true, false, cond}
 use mathlib.Core.List.{List}
 use mathlib.Core.Path.{◌≡◌, refl, sym, ap, subst, ◌∙◌}
 use Prim.Native.Nat.{ℕ, ◌+◌, ◌-◌, ◌≤◌}
@@ -8,6 +9,7 @@ use Rattle.std.specs.Prelude.{Option}
 use Rattle.std.specs.Option.{unwrap_or}
 use Rattle.std.proofs.lemmas.List.{take_rest}
 use Rattle.std.specs.declared.option.Option.TheVariants as optional
+use Rattle.note.specs.Note.{OptionalNote}
 use Rattle.note.specs.declared.RootModifier.TheVariants.{Sharp, Flat}
 use Rattle.expression.specs.ParserError.{all_numbers, numbers_of}
 use Rattle.expression.specs.declared.expression.Exp.{Exp}
@@ -19,15 +21,17 @@ use Rattle.step.specs.declared.effect.Gains.TheVariants.{None, One, Two}
 use Rattle.step.specs.declared.effect.Gains.{Gains}
 use Rattle.step.specs.declared.effect.Here.{Here}
 use Rattle.step.specs.Effect.{OptionalError}
+use Rattle.lookahead.specs.Next.{is_sign}
 use Rattle.lookahead.specs.declared.Ahead.{Ahead}
+use Rattle.lookahead.specs.declared.Next.{Next}
 use Rattle.token.specs.Token.{at, type_of}
 use Rattle.token.specs.declared.Token.{Token}
 use Rattle.token.specs.declared.Bracket.TheVariants.{Opens, Closes, Ends, Other}
 use Rattle.token.specs.declared.Bracket.{Bracket}
 use Rattle.token.specs.declared.TokenType.TheVariants as type
 use Rattle.token.specs.declared.TokenType.{TokenType}
-use Rattle.parser.specs.Parser.{ahead_of, bracket_of, error_of, gains_of, itself}
-use Rattle.parser.specs.State.{Fits, Foreseen, bracket_by, effect_in, here_in}
+use Rattle.parser.specs.Parser.{ahead_of, bracket_of, error_of, gains_of, itself, root_effect}
+use Rattle.parser.specs.State.{Fits, Foreseen, Ready, bracket_by, effect_in, here_in, start}
 use Rattle.parser.specs.declared.state.State.{State}
 
 pub gains-length : (g : Gains) → length (gains_of g) ≡ gains_count g
@@ -93,3 +97,19 @@ effect_at_lem ts xs st inside {b} {q} {k} {h} a {r} eb eq ek eh ea er =
     let e : r ≡ effect_in ts xs st inside = er ∙ t ∙ (λ i. inside_of (eb i) (eq i) (ek i) (eh i) (ahead_of rest)) in
     let s = inside-small (bracket_by inside (bracket_of (at ts st.at))) (unwrap_or inside 0) (type_of (at ts st.at).kind) (here_in (at ts st.at) xs st) (ahead_of rest) in
     (e, subst (Fits st) (sym e) (fits_small s refl refl))
+
+-- before the first token the bounds hold
+pub ready-start : Ready start
+ready-start = record { small = omega arith; few = omega arith; fewer = omega arith; bound = omega arith; errs = omega arith; exps = omega arith }
+
+-- the effect of the root, which is the first token, fits that state
+pub fits_root : (n : OptionalNote) (nx : Next) {e : Effect} → e ≡ root_effect n nx → Fits start e
+fits_root n nx {e} h = subst (Fits start) (sym h) (by n)
+  where
+    sign : (b : Bool) → cond b 1 0 ≤ 2
+    sign true = omega arith
+    sign false = omega arith
+
+    by : (m : OptionalNote) → Fits start (root_effect m nx)
+    by (optional.Some m) = record { gained = omega arith; counted = omega arith; taken = sign (is_sign nx) }
+    by optional.None = record { gained = omega arith; counted = omega arith; taken = omega arith }

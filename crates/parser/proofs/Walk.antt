@@ -30,6 +30,9 @@ skips zero stk s ts = refl
 skips (suc n) stk s [] = refl
 skips (suc n) stk s (t ∷ ts) = skips n stk s ts
 
+pub kept-none : (st : State) (es : List ℕ) (xs : List Exp) → Kept st st es es xs xs
+kept-none st es xs = record { more = omega arith; gains = omega arith; rest = refl; others = refl }
+
 pub kept_then : {st m r : State} {e₀ e₁ e₂ : List ℕ} {x₀ x₁ x₂ : List Exp} → Kept st m e₀ e₁ x₀ x₁ → Kept m r e₁ e₂ x₁ x₂ → Kept st r e₀ e₂ x₀ x₂
 kept_then {st} {m} {r} {e₀} {e₁} {e₂} {x₀} {x₁} {x₂} a b =
     record {
@@ -112,6 +115,9 @@ module _ (ts : List Token) where
         })
 
   module _ (inside : Option ℕ) where
+    pub within_none : (st : State) (es : List ℕ) (xs : List Exp) → Ready st → Within ts inside st st es es xs xs
+    within_none st es xs h = record { same = λ stk. refl; kept = kept-none st es xs; ready = h; forward = omega arith }
+
     pub within_then : {st u r : State} {es es₁ es₂ : List ℕ} {xs xs₁ xs₂ : List Exp} → Within ts inside st u es es₁ xs xs₁
         → Within ts inside u r es₁ es₂ xs₁ xs₂ → Within ts inside st r es es₂ xs xs₂
     within_then a b =

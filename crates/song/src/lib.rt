@@ -1,9 +1,10 @@
 // Song lines: a step reads the bar at a position.
 #![tactic(auto)]
 
+ghost use Rattle.std.specs.Prelude.{◌≡◌};
 ghost use Rattle.song.specs.State.{Stepped, shown};
 
-use bars::Found;
+use bars::{Found, Place};
 use chord::Chord;
 use reader::Refusal;
 
@@ -25,20 +26,29 @@ pub struct Step {
     pub next: usize,
 }
 
-// The step at any position of any line, with any lent list for the errors of its bar.
-pub fn step_at(line: &[u8], at: usize, errs: &mut [u16]) -> Step
-    ensures { Stepped line.now at (shown result) errs.old errs.new }
+// The step that says this of a place: where it lies, and where the next one begins, does not depend on what is said.
+fn step_with(answer: Answer, place: Place) -> Step
+    ensures { result ≡ record { answer = answer; from = place.from; to = place.to; next = place.next } }
 {
-    let place = bars::place_at(line, at);
-    let answer = match place.found {
-        Found::TooLong => Answer::TooLong,
-        Found::End => Answer::End,
-        Found::Bar => Answer::Bar(reader::read(&line[place.from..place.to], errs)),
-    };
     Step {
         answer,
         from: place.from,
         to: place.to,
         next: place.next,
+    }
+}
+
+// The step at any position of any line, with any lent list for the errors of its bar.
+pub fn step_at(line: &[u8], at: usize, errs: &mut [u16]) -> Step
+    ensures { Stepped line.now at (shown result) errs.old errs.new }
+{
+    let place = bars::place_at(line, at);
+    match place.found {
+        Found::TooLong => step_with(Answer::TooLong, place),
+        Found::End => step_with(Answer::End, place),
+        Found::Bar => {
+            let read = reader::read(&line[place.from..place.to], errs);
+            step_with(Answer::Bar(read), place)
+        }
     }
 }

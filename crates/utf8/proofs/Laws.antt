@@ -59,6 +59,14 @@ scalar_high c t = go (ltb c 55296) (ltb 57343 c) refl t
     go false true e t = ltb→lt c 1114112 t
     go false false e t = absurd t
 
+pub no_surrogate : (c : ℕ) → T (is_scalar c) → 55296 ≤ c → 57344 ≤ c
+unfolding is_scalar
+no_surrogate c t h = go (ltb 57343 c) refl (subst (λ (a : Bool). T (a || ltb 57343 c && ltb c 1114112)) (le-ltb c 55296 h) t)
+  where
+    go : (b : Bool) → ltb 57343 c ≡ b → T (false || b && ltb c 1114112) → 57344 ≤ c
+    go true e t = ltb-true 57343 c e
+    go false e t = absurd t
+
 pub low_scalar : (c : ℕ) → c < 55296 → T (is_scalar c)
 unfolding is_scalar
 low_scalar c h = rw (lt-ltb c 55296 h) tt

@@ -178,6 +178,16 @@ last_step n s c =
     go true = refl
     go false = refl
 
+-- a class is present where it has a last interval
+last-present : (n : ℕ) (s : Set) (c : ℕ) → n ≤ 23 → ltb (last_below n s c) 23 ≡ present_below n s c
+unfolding last_below
+last-present zero s c h = refl
+last-present (suc n) s c h = go (s n && eqb (semitones n % 12) c) (last-present n s c (omega arith))
+  where
+    go : (t : Bool) → ltb (last_below n s c) 23 ≡ present_below n s c → ltb (cond t n (last_below n s c)) 23 ≡ t || present_below n s c
+    go true e = lt-ltb n 23 (omega arith)
+    go false e = e
+
 three_is : (a b c : Bool) (x y z : ℕ) → three_of (then_some a x) (then_some b y) (then_some c z) ≡ only (a && (b && c)) (ThreeConsecutiveSemitones x y z)
 three_is false b c x y z = refl
 three_is true false c x y z = refl

@@ -92,6 +92,10 @@ asked_first room f = by (ltb room 112) refl
 
 -- ---- what the code gave
 
+-- the same answer by another name
+pub gave_as : {o : WriteOutcome} {r s : Answer} {bs bs' : List ℕ} → r ≡ s → WriteGave o r bs bs' → WriteGave o s bs bs'
+gave_as {o} {r} {s} {bs} {bs'} e g = subst (λ (x : Answer). WriteGave o x bs bs') e g
+
 -- a refusal leaves the buffer as it was
 gave_none : {o : WriteOutcome} {k : ℕ} (r : Answer) (bs : List ℕ) → o ≡ refused k → number_of r ≡ k → length_of r ≡ 0 → WriteGave o r bs bs
 gave_none r bs e n l = subst (λ (o : WriteOutcome). WriteGave o r bs bs) (sym e) (record { number = n; size = l; buffer = refl })

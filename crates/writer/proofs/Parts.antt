@@ -1,11 +1,12 @@
 -- The texts of the parts: the parts are written one by one in their order and then the bass, and
 -- there is room for them in 112 bytes.
 -- Assumes nothing.
-use mathlib.Core.Bool.{Bool, true, false, cond}
+use mathlib.Core.Bool.{Bool, true, false, ◌&&◌, cond}
 use mathlib.Core.List.{List, [], ◌∷◌, ◌++◌, append_assoc, append-nil}
 use mathlib.Core.Path.{◌≡◌, refl, sym, ap, ◌∙◌}
 use Prim.Native.Nat.{ℕ, zero, suc, ◌+◌, ◌≤◌, ◌<◌}
 use native.Mathlib.Omega.{arith}
+use lib.Dec.{T, leb, leb→le}
 use lib.ListN.{length, get_or, take, length-append}
 use lib.Seq.{get_or-take, length-take-le, take-suc}
 use Rattle.intervals.specs.Interval.{Set}
@@ -20,6 +21,33 @@ use Rattle.lexer.specs.Text.{ascii}
 use Rattle.house_text.proofs.Length.{length-spelled}
 use Rattle.house_text.specs.Spelling.{note_text, spell, written}
 use Rattle.writer.specs.State.{bass_text, part_text, text_at, texts23, written23}
+
+-- The texts have at most eight bytes each, by computation.
+
+fits : List (List ℕ) → Bool
+fits [] = true
+fits (t ∷ ts) = leb (length t) 8 && fits ts
+
+left : (a b : Bool) → T (a && b) → T a
+left true b t = tt
+left false b t = t
+
+right : (a b : Bool) → T (a && b) → T b
+right true b t = t
+right false b t = absurd t
+
+fits_at : (l : List (List ℕ)) → T (fits l) → (i : ℕ) → i < length l → length (get_or l i []) ≤ 8
+unfolding fits
+fits_at [] t i h = absurd (omega arith)
+fits_at (w ∷ l) t zero h = leb→le _ _ (left (leb (length w) 8) (fits l) t)
+fits_at (w ∷ l) t (suc i) h = fits_at l (right (leb (length w) 8) (fits l) t) i (omega arith)
+
+texts_fit : T (fits texts23)
+unfolding fits
+texts_fit = tt
+
+pub text_fits : (i : ℕ) → i < 23 → length (text_at i) ≤ 8
+text_fits i h = fits_at texts23 texts_fit i h
 
 -- Any parts with their texts.
 

@@ -80,6 +80,14 @@ fn put_note(out: &mut Buffer, note: Note)
     out.put(sign(note.modifier));
 }
 
+// The text of part i.
+fn put_text(out: &mut Buffer, i: usize)
+    requires { (i < 23) × (out.old.len + length (text_at i) ≤ length out.old.bytes.now) }
+    ensures { Grew out.old out.new (text_at i) }
+{
+    out.put(text(i));
+}
+
 // The parts that the set and K name, but for the bass.
 fn put_parts(out: &mut Buffer, set: IntervalSet, k: SusKind)
     requires { out.old.len + length (written23 (members set) k) ≤ length out.old.bytes.now }
@@ -87,7 +95,7 @@ fn put_parts(out: &mut Buffer, set: IntervalSet, k: SusKind)
 {
     for i in 0..23 {
         if is_named(set, k, i) {
-            out.put(text(i));
+            put_text(out, i);
         }
     }
 }

@@ -1,10 +1,13 @@
 -- The invariant: what is in the list and what the rest of the order gives are the display list, and the list is the one of its numbers. A turn
 -- leaves the list as it is, or puts one number behind its numbers, by whether the interval is a member.
-use Prim.Native.Nat.{◌+◌, ◌<◌, suc, ℕ}
+use Prim.Native.Nat.{◌+◌, ◌<◌, ◌≤◌, suc, ℕ}
 use Rattle.intervals.specs.Stored.{list_of, listed, members}
 use Rattle.display.proofs.Order.{append-nil, display_turn, order-length}
 use Rattle.display.specs.Display.{chosen, display_of, order, shown}
-use lib.ListN.{drop_of_length-le, length, length-append}
+use Rattle.intervals.specs.Interval.{Set}
+use Rattle.intervals.specs.declared.IntervalList.{IntervalList}
+use Rattle.std.proofs.Common.{rules}
+use lib.ListN.{drop, drop_of_length-le, length, length-append}
 use mathlib.Core.Bool.{cond}
 use mathlib.Core.List.{List, [], ◌∷◌, ◌++◌}
 use mathlib.Core.Path.{◌∙◌, ◌≡◌, ap, refl, sym}
@@ -12,9 +15,15 @@ use native.Mathlib.Omega.{arith}
 use Rattle.display.proofs.in_order.Goals as goal
 use Rattle.display.proofs.in_order.Goals.{then-contains, else-contains}
 
+-- nothing of the order is in the list without numbers
+display_start : (k : ℕ) (s : Set) {l : IntervalList} → l ≡ list_of [] → (length (listed l) ≤ 0) × (l ≡ list_of (listed l))
+    × (listed l ++ chosen s (shown k) (drop 0 (order k)) ≡ display_of k s)
+unfolding display_of list_of listed
+display_start k s {l} e = let n : listed l ≡ [] = ap listed e in (rw n (omega arith), e ∙ ap list_of (sym n), rw n refl)
+
 pub loop-j-init : goal.loop-j-init
-unfolding display_of
-loop-j-init c = let e = c.new-list.ensures in (rw e.1 (omega arith), e.0 ∙ ap list_of (sym e.1), rw e.1 refl)
+unfolding list_of
+loop-j-init c = display_start c.args.k (members c.args.s) (search rules)
 
 pub loop-j-preserved : goal.loop-j-preserved
 loop-j-preserved c =

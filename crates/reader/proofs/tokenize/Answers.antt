@@ -1,5 +1,5 @@
 -- The tokens are short enough to fold, and what is folded is short enough to read.
-use Rattle.std.proofs.Common.{◌≡◌, ◌+◌, ◌≤◌, ◌<◌, ◌∙◌, ap, subst, sym, arith, length, take, drop, length-append, length-take}
+use Rattle.std.proofs.Common.{ℕ, List, ◌≡◌, ◌+◌, ◌≤◌, ◌<◌, ◌∙◌, ap, subst, sym, arith, length, take, drop, length-append, length-take}
 use Rattle.std.proofs.Math.Seq.{get_or-take}
 use Rattle.std.proofs.lemmas.List.{take-append-le}
 use Rattle.folding.proofs.Ranges.{pre_process-ranged}
@@ -8,6 +8,7 @@ use Rattle.lexer.proofs.Ranges.{scanned_short}
 use Rattle.token.proofs.Ranges.{ranged_wider}
 use Rattle.token.specs.Token.{Ranged, at, token}
 use Rattle.token.specs.declared.Token.{Token}
+use Rattle.reader.specs.State.{Tokenized}
 use Rattle.reader.proofs.tokenize.Goals as goal
 
 pub pre_process-requires : goal.pre_process-requires
@@ -19,6 +20,9 @@ pre_process-requires c =
     let s = scanned_short scan.ensures.scanned j k in
     subst (λ (t : Token). t.len ≤ 256) (sym e) (omega (arith, s, c.requires.0))
 
+tokenized_as : {text : List ℕ} {m n : ℕ} {ts : List Token} → m ≡ n → Tokenized text m ts → Tokenized text n ts
+tokenized_as {text} {m} {n} {ts} e t = subst (λ (k : ℕ). Tokenized text k ts) e t
+
 pub returns : goal.returns
 returns c =
     let scan = c.scan_tokens-n in
@@ -28,9 +32,9 @@ returns c =
     let wide = pre_process-ranged (length text + 1) (length text) ts scan.ensures.scanned.ranged in
     let q = length-append fold.new.tokens (drop scan.result scan.new.tokens) in
     let e = take-append-le fold.result fold.new.tokens (drop scan.result scan.new.tokens) (omega (arith, fold.ensures.fewer, fold.auto)) ∙ fold.ensures.folded in
-    record {
+    tokenized_as {m = fold.result} (omega (arith, fold.ensures.fewer, length-take scan.result scan.new.tokens)) (record {
       few = omega (arith, fold.ensures.fewer, length-take scan.result scan.new.tokens, scan.ensures.scanned.few, c.requires.0);
       room = omega (arith, fold.ensures.fewer, fold.auto, q);
       list = e ∙ ap pre_process scan.ensures.scanned.written.list;
       ranged = subst (Ranged 1000 1000) (sym e) (ranged_wider (length text + 1) (length text + length text) 1000 1000 (pre_process ts) (omega (arith, c.requires.0)) (omega (arith, c.requires.0)) wide);
-    }
+    })

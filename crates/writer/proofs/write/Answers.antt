@@ -3,7 +3,8 @@
 use mathlib.Core.Path.{◌∙◌}
 use native.Mathlib.Omega.{arith}
 use Rattle.chord.specs.Chord.{four_of}
-use Rattle.writer.proofs.Answers.{gave_no_text, gave_short, gave_spelled, is_test, negated}
+use Rattle.std.proofs.Common.{rules}
+use Rattle.writer.proofs.Answers.{gave_as, gave_no_text, gave_short, gave_spelled, is_test, negated}
 use Rattle.writer.proofs.write.Goals as goal
 
 pub returns-then-buffer-lt112 : goal.returns-then-buffer-lt112
@@ -21,6 +22,7 @@ pub returns : goal.returns
 returns c =
     let a = c.args in
     let t = c.has_text in
-    gave_spelled (four_of a.chord) a.buffer.now c.if-buffer-lt112.false
+    gave_as (search rules)
+    (gave_spelled (four_of a.chord) a.buffer.now c.if-buffer-lt112.false
     (is_test a.chord t.result t.ensures ∙ negated _ _ c.if-not-has_text.false-raw)
-    c.spell.ensures
+    c.spell.ensures)

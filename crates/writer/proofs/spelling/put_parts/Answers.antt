@@ -10,12 +10,12 @@ use Rattle.writer.proofs.spelling.put_parts.Goals.{then-is_named, else-is_named}
 pub loop-i-init : goal.loop-i-init
 loop-i-init c = grew_as (sym (so_far_none (members c.args.set) c.args.k)) (grew_none _)
 
-pub put-requires : goal.put-requires
-put-requires c =
+pub put_text-requires : goal.put_text-requires
+put_text-requires c =
     let a = c.args in
     let w = c.loop-i.invariant in
     let r = text-room (members a.set) a.k c.loop-i.i (omega arith) (sym (c.if-is_named.ensures None)) in
-    omega (arith, ap length c.text.ensures, r, w.put.count, w.size, c.requires)
+    (omega arith, omega (arith, r, w.put.count, w.size, c.requires))
 
 pub loop-i-preserved : goal.loop-i-preserved
 loop-i-preserved c =
@@ -26,7 +26,7 @@ loop-i-preserved c =
     elim c.if-is_named.branch [
       | then-is_named v ↦
           rw v.out-is
-          (grew_as (sym (so_far_text s k i (omega arith) (sym (v.if-is_named.ensures None)))) (grew_then w (grew_as v.text.ensures v.put.ensures)))
+          (grew_as (sym (so_far_text s k i (omega arith) (sym (v.if-is_named.ensures None)))) (grew_then w v.put_text.ensures))
       | else-is_named v ↦ rw v.out-is (grew_as (sym (so_far_same s k i (omega arith) (sym (v.if-is_named.ensures None)))) w)
     ]
 
